@@ -1,0 +1,154 @@
+//! Compiles what the engine is compared with: the versions in C with gcc and, where installed, with
+//! clang; the comparators in double where LAPACK or Eigen is installed; and an earlier archive of
+//! the engine where `HUBQR_EARLIER` names one. What is there becomes a `cfg` of that name.
+use std::env;
+use std::path::{Path, PathBuf};
+use std::process::Command;
+
+/// The versions in C: their names and their sources.
+const VERSIONS: [(&str, &[&str]); 3] = [
+    ("plain", &["plain.c", "calls.c"]),
+    ("wide", &["wide.c", "calls.c"]),
+    ("narrow", &["narrow.c", "wide.c", "calls.c"]),
+];
+
+/// What `libhubqr.a` exports, under other names in an earlier archive.
+const EXPORTS: [&str; 5] = [
+    "hubqr_load",
+    "hubqr_run",
+    "hubqr_fetch",
+    "hubqr_read",
+    "hubqr_whole",
+];
+
+fn main() {
+    watch();
+    let folder = env::var_os("OUT_DIR").expect("cargo sets OUT_DIR");
+    let folder = Path::new(&folder);
+    println!("cargo:rustc-link-search=native={}", folder.display());
+    if !versions(folder, "gcc") {
+        panic!("the benchmark needs gcc for the version that all others are compared with");
+    }
+    announce("clang", versions(folder, "clang"));
+    announce("lapack", lapack(folder));
+    announce("eigen", eigen(folder));
+    announce("earlier", earlier(folder));
+}
+
+/// What the outcome depends on.
+fn watch() {
+    for variable in ["HUBQR_EARLIER", "CPLUS_INCLUDE_PATH", "LIBRARY_PATH"] {
+        println!("cargo:rerun-if-env-changed={variable}");
+    }
+    let sources = VERSIONS.iter().flat_map(|(_, sources)| sources.iter());
+    for file in sources.chain(&["version.h", "lapack.c", "eigen.cpp"]) {
+        println!("cargo:rerun-if-changed={file}");
+    }
+}
+
+fn announce(name: &str, is_there: bool) {
+    println!("cargo:rustc-check-cfg=cfg({name})");
+    if is_there {
+        println!("cargo:rustc-cfg={name}");
+    }
+}
+
+/// The versions in C by one compiler, if it is installed.
+fn versions(folder: &Path, compiler: &str) -> bool {
+    if run(Command::new(compiler).arg("--version")).is_err() {
+        return false;
+    }
+    for (version, sources) in VERSIONS {
+        let name = format!("{compiler}_{version}");
+        let prefix = format!("-DVERSION={name}");
+        let rotate = format!("-DROTATE=rotate_{version}");
+        let objects = sources.iter().map(|source| {
+            let object = folder.join(format!("{name}_{source}.o"));
+            compile(compiler, &["-std=c11", &prefix, &rotate], source, &object);
+            object
+        });
+        archive(folder, &name, &objects.collect::<Vec<_>>());
+    }
+    true
+}
+
+/// The comparator that calls LAPACK, if one can be linked.
+fn lapack(folder: &Path) -> bool {
+    let (object, linked) = (folder.join("lapack.o"), folder.join("lapack.so"));
+    compile("gcc", &["-std=c11", "-fPIC"], "lapack.c", &object);
+    let mut link = Command::new("gcc");
+    link.args(["-shared", "-Wl,-z,defs", "-o"])
+        .args([&linked, &object])
+        .args(["-llapack", "-lblas"]);
+    if run(&mut link).is_err() {
+        return false;
+    }
+    archive(folder, "comparator_lapack", &[object]);
+    println!("cargo:rustc-link-lib=lapack");
+    println!("cargo:rustc-link-lib=blas");
+    true
+}
+
+/// The comparator that uses Eigen, if g++ finds its headers.
+fn eigen(folder: &Path) -> bool {
+    let headers = ["-isystem", "/usr/include/eigen3"];
+    let mut find = Command::new("g++");
+    find.args(headers).args(["-E", "-include", "Eigen/Dense"]);
+    if run(find.args(["-x", "c++", "/dev/null", "-o", "/dev/null"])).is_err() {
+        return false;
+    }
+    let object = folder.join("eigen.o");
+    let flags = [headers[0], headers[1], "-DNDEBUG"];
+    compile("g++", &flags, "eigen.cpp", &object);
+    archive(folder, "comparator_eigen", &[object]);
+    println!("cargo:rustc-link-lib=stdc++");
+    true
+}
+
+/// An earlier archive of the engine with other names for its calls, if one is named.
+fn earlier(folder: &Path) -> bool {
+    let Some(path) = env::var_os("HUBQR_EARLIER") else {
+        return false;
+    };
+    println!("cargo:rerun-if-changed={}", Path::new(&path).display());
+    let mut rename = Command::new("objcopy");
+    for name in EXPORTS {
+        rename.arg(format!("--redefine-sym={name}=earlier_{name}"));
+    }
+    needed(rename.arg(path).arg(folder.join("libearlier.a")));
+    println!("cargo:rustc-link-lib=static=earlier");
+    true
+}
+
+fn compile(compiler: &str, flags: &[&str], source: &str, object: &Path) {
+    let mut command = Command::new(compiler);
+    command.args(["-O3", "-Wall", "-Wextra"]).args(flags);
+    let messages = needed(command.args(["-c", source, "-o"]).arg(object));
+    for line in messages.lines() {
+        println!("cargo:warning={line}");
+    }
+}
+
+fn archive(folder: &Path, name: &str, objects: &[PathBuf]) {
+    let file = folder.join(format!("lib{name}.a"));
+    needed(Command::new("ar").arg("crs").arg(file).args(objects));
+    println!("cargo:rustc-link-lib=static={name}");
+}
+
+/// Runs a command that has to succeed and answers its messages.
+fn needed(command: &mut Command) -> String {
+    run(command).unwrap_or_else(|error| panic!("{error}"))
+}
+
+/// Runs a command and answers its messages, or why it failed.
+fn run(command: &mut Command) -> Result<String, String> {
+    let output = command
+        .output()
+        .map_err(|error| format!("{command:?}: {error}"))?;
+    let messages = String::from_utf8_lossy(&output.stderr).into_owned();
+    if output.status.success() {
+        Ok(messages)
+    } else {
+        Err(format!("{command:?}: {messages}"))
+    }
+}

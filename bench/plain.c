@@ -1,0 +1,25 @@
+/* A turn as the specification words it: sums in 64 bits, one column after the other. The leading column decides the signs. */
+#include "version.h"
+
+uint32_t NAME(rotate_plain)(int32_t *upper, int32_t *lower, int leading)
+{
+    int negate = upper[leading] < 0;
+    int positive[STEPS];
+    uint32_t clamps = 0;
+    for (int k = leading; k < COLUMNS; k++) {
+        int64_t u = negate ? -(int64_t)upper[k] : upper[k];
+        int64_t v = negate ? -(int64_t)lower[k] : lower[k];
+        for (int i = 0; i < STEPS; i++) {
+            int64_t a = v >> i;
+            int64_t b = u >> i;
+            if (k == leading) {
+                positive[i] = v >= 0;
+            }
+            u = positive[i] ? u + a : u - a;
+            v = positive[i] ? v - b : v + b;
+        }
+        upper[k] = clamped(u, &clamps);
+        lower[k] = k == leading ? 0 : clamped(v, &clamps);
+    }
+    return clamps;
+}

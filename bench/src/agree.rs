@@ -1,0 +1,112 @@
+//! Before anything is timed: every contender answers what the engine answers, in every word and
+//! byte.
+
+use reference::cases::{edges, Kind};
+use reference::matrix::Matrix;
+use reference::random::Random;
+use reference::records::write_matrix;
+
+use crate::contenders::{Area, Buffer, Contender, Record, ENGINE};
+use crate::doubles::{product_error, Comparator};
+use crate::inputs;
+
+const PER_KIND: usize = 20;
+const AREAS: usize = 200;
+const INSTALMENT: u16 = 7;
+
+/// Far above what doubles lose in 16 by 16, far below what a wrong factorization shows.
+const TOLERANCE: f64 = 1e-12;
+
+/// What a factorization leaves behind.
+#[derive(PartialEq)]
+struct Outcome {
+    heard: u8,
+    clamps: u32,
+    area: Area,
+    buffer: Buffer,
+}
+
+/// The first disagreement with the engine, if there is one.
+pub fn check(contender: &Contender, seed: u64) -> Result<(), String> {
+    let mut random = Random::new(seed);
+    for matrix in matrices(&mut random) {
+        let record = write_matrix(&matrix);
+        let expected = at_once(&ENGINE, &record);
+        if at_once(contender, &record) != expected || in_parts(contender, &record) != expected {
+            return Err(format!(
+                "{} and the engine differ on {matrix:?}",
+                contender.name
+            ));
+        }
+    }
+    for _ in 0..AREAS {
+        let words = inputs::words(&mut random);
+        if worked(contender, words) != worked(&ENGINE, words) {
+            return Err(format!(
+                "{} and the engine differ on {words:?}",
+                contender.name
+            ));
+        }
+    }
+    Ok(())
+}
+
+/// The first matrix whose factors in double do not give it back, if there is one.
+pub fn check_double(comparator: &Comparator, seed: u64) -> Result<(), String> {
+    for matrix in matrices(&mut Random::new(seed)) {
+        let (mut q, mut r) = ([0.0; 256], [0.0; 256]);
+        (comparator.factor)(&write_matrix(&matrix), &mut q, &mut r);
+        let error = product_error(&matrix.to_real(), &q, &r);
+        if error.is_nan() || error > TOLERANCE {
+            return Err(format!(
+                "{}: error {error:e} on {matrix:?}",
+                comparator.name
+            ));
+        }
+    }
+    Ok(())
+}
+
+fn matrices(random: &mut Random) -> Vec<Matrix> {
+    let mut matrices = edges();
+    for kind in Kind::ALL {
+        matrices.extend((0..PER_KIND).map(|_| kind.matrix(random)));
+    }
+    matrices
+}
+
+fn at_once(contender: &Contender, record: &Record) -> Outcome {
+    let (mut area, mut buffer) = ([0; 512], [0; 2049]);
+    let (heard, clamps) = (contender.whole)(record, &mut area, &mut buffer);
+    Outcome {
+        heard,
+        clamps,
+        area,
+        buffer,
+    }
+}
+
+fn in_parts(contender: &Contender, record: &Record) -> Outcome {
+    let (mut area, mut buffer) = ([0; 512], [0; 2049]);
+    let heard = (contender.load)(record, &mut area);
+    let clamps = run_in_instalments(contender, &mut area);
+    (contender.fetch)(&area, &mut buffer);
+    Outcome {
+        heard,
+        clamps,
+        area,
+        buffer,
+    }
+}
+
+fn worked(contender: &Contender, mut words: Area) -> (Area, u32) {
+    let clamps = run_in_instalments(contender, &mut words);
+    (words, clamps)
+}
+
+fn run_in_instalments(contender: &Contender, area: &mut Area) -> u32 {
+    let turns = (0..hubqr::TURNS).step_by(usize::from(INSTALMENT));
+    turns
+        .map(|turn| (contender.run)(turn, INSTALMENT, area))
+        .sum()
+}

@@ -1,0 +1,75 @@
+//! Who is timed: implementations in whole numbers, which have to agree in every word and byte.
+
+use crate::versions;
+
+pub type Record = [u8; hubqr::MATRIX_RECORD_BYTES];
+pub type Area = [i32; hubqr::AREA_WORDS];
+pub type Buffer = [u8; hubqr::RESULT_RECORD_BYTES];
+
+/// The calls of one implementation, on input that they accept.
+#[derive(Clone, Copy)]
+pub struct Contender {
+    pub name: &'static str,
+    /// Answers the heard byte.
+    pub load: fn(&Record, &mut Area) -> u8,
+    /// Answers the clamps.
+    pub run: fn(u32, u16, &mut Area) -> u32,
+    pub fetch: fn(&Area, &mut Buffer),
+    /// Answers the heard byte and the clamps.
+    pub whole: fn(&Record, &mut Area, &mut Buffer) -> (u8, u32),
+}
+
+/// The version that all others are compared with.
+pub const BASE: Contender = versions::gcc_plain::CONTENDER;
+
+const ACCEPTED: &str = "the benchmark hands over accepted input only";
+
+/// The archive that a host links.
+pub const ENGINE: Contender = Contender {
+    name: "engine",
+    load: |record, area| hubqr::load(record, area).expect(ACCEPTED).heard,
+    run: |turn, allowance, area| hubqr::run(turn, allowance, area).expect(ACCEPTED).clamps,
+    fetch: |area, buffer| hubqr::fetch(hubqr::TURNS, area, buffer).expect(ACCEPTED),
+    whole: |record, area, buffer| {
+        let answer = hubqr::whole(record, area, buffer).expect(ACCEPTED);
+        (answer.heard, answer.clamps)
+    },
+};
+
+/// The second implementation. Its Run copies the area in and out.
+const REFERENCE: Contender = Contender {
+    name: "reference, Rust",
+    load: |record, area| reference::calls::load(record, area).heard,
+    run: |turn, allowance, area| reference::calls::run(turn, allowance, area).clamps,
+    fetch: |area, buffer| {
+        reference::calls::fetch(hubqr::TURNS, area, buffer);
+    },
+    whole: |record, area, buffer| {
+        let answer = reference::calls::whole(record, area, buffer);
+        (answer.heard, answer.clamps)
+    },
+};
+
+/// All that this build has, the engine first.
+pub fn all() -> Vec<Contender> {
+    let mut contenders = vec![
+        ENGINE,
+        #[cfg(earlier)]
+        crate::earlier::CONTENDER,
+    ];
+    contenders.extend(versions::all());
+    contenders.push(REFERENCE);
+    contenders
+}
+
+/// What could have been compared but is not there, in words.
+pub fn missing() -> Vec<&'static str> {
+    vec![
+        #[cfg(not(clang))]
+        "clang is not installed: its versions in C are skipped",
+        #[cfg(not(lapack))]
+        "LAPACK is not installed: it is skipped",
+        #[cfg(not(eigen))]
+        "Eigen is not installed: it is skipped",
+    ]
+}

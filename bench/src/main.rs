@@ -1,0 +1,105 @@
+//! The benchmark: the engine beside the reference, versions in C, LAPACK and Eigen. Nothing here
+//! tests a time.
+
+mod agree;
+mod clock;
+mod contenders;
+mod doubles;
+#[cfg(earlier)]
+mod earlier;
+mod inputs;
+mod measure;
+mod norms;
+mod options;
+mod report;
+mod rounds;
+mod stats;
+mod table;
+mod versions;
+
+use std::env;
+use std::fs;
+use std::process::ExitCode;
+
+use options::{Options, USAGE};
+use rounds::Results;
+use table::Table;
+
+fn main() -> ExitCode {
+    let options = match Options::parse(env::args().skip(1)) {
+        Ok(options) => options,
+        Err(message) => {
+            eprintln!("bench: {message}\n\n{USAGE}");
+            return ExitCode::from(2);
+        }
+    };
+    if options.help {
+        print!("{USAGE}");
+        return ExitCode::SUCCESS;
+    }
+    if let Err(message) = agree(options.seed) {
+        eprintln!("bench: {message}");
+        return ExitCode::FAILURE;
+    }
+    print(&options, &Results::measure(options.rounds, options.seed));
+    ExitCode::SUCCESS
+}
+
+/// Nobody is timed who does not do the work.
+fn agree(seed: u64) -> Result<(), String> {
+    for contender in contenders::all() {
+        agree::check(&contender, seed)?;
+    }
+    for comparator in doubles::all() {
+        agree::check_double(&comparator, seed)?;
+    }
+    Ok(())
+}
+
+fn print(options: &Options, results: &Results) {
+    println!("{}\n", machine(results));
+    println!(
+        "{} rounds, seed {}. Times are medians. Ratios are to C plain, gcc: medians of the ratios \
+         in each round.\n",
+        options.rounds, options.seed
+    );
+    for line in contenders::missing() {
+        println!("{line}\n");
+    }
+    let section = |title: &str, table: Table| match options.markdown {
+        true => println!("### {title}\n\n{}", table.markdown()),
+        false => println!("{title}\n\n{}", table.plain()),
+    };
+    section("All contenders", report::everyone(results));
+    println!("{}\n", fallback(options.seed));
+    section(
+        "The engine beside each",
+        report::engine_over_others(results),
+    );
+    section("Run from turn number 0", report::growth(results));
+    section("Calls and Whole", report::shares(results));
+}
+
+/// What the words of the fallback are like.
+fn fallback(seed: u64) -> String {
+    let (loaded, arbitrary) = norms::rotations_outside(seed);
+    format!(
+        "Fallback is Run with allowance 120 on arbitrary words: {arbitrary:.1} of the 120 \
+         rotations have a column with u^2 + v^2 above 2^60 + 2^44. On loaded matrices {loaded:.1} \
+         have one."
+    )
+}
+
+/// The processor's model, where the system tells it, and its clock.
+fn machine(results: &Results) -> String {
+    let information = fs::read_to_string("/proc/cpuinfo").unwrap_or_default();
+    let mut models = information
+        .lines()
+        .filter(|line| line.starts_with("model name"));
+    let model = models.next().and_then(|line| line.split_once(": "));
+    let model = model.map_or("unknown", |(_, model)| model);
+    match results.cycles_per_nanosecond() {
+        Some(clock) => format!("Processor: {model}, core clock about {clock:.2} GHz"),
+        None => format!("Processor: {model}"),
+    }
+}

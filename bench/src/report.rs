@@ -1,0 +1,137 @@
+//! The tables that are printed.
+
+use reference::rotation::STEPS;
+use reference::schedule;
+
+use crate::contenders::{BASE, ENGINE};
+use crate::measure::Measure;
+use crate::rounds::Results;
+use crate::table::{grouped, Table};
+
+const NOTHING: &str = "-";
+
+/// The measures that all contenders do.
+const COMMON: [Measure; 3] = [Measure::Whole, Measure::Rotation, Measure::Arbitrary];
+
+/// All times, with their ratios to the base.
+pub fn everyone(results: &Results) -> Table {
+    let mut table = Table::new(&[
+        "",
+        "Whole: ratio",
+        "ns",
+        "cycles",
+        "Rotation: ratio",
+        "ns",
+        "cycles",
+        "Fallback: ratio",
+        "ns",
+        "cycles",
+    ]);
+    for name in results.names() {
+        let columns = COMMON.map(|measure| ratio_time_cycles(results, name, measure));
+        let name = [name.to_string()].into_iter();
+        table.rows.push(name.chain(columns.concat()).collect());
+    }
+    table
+}
+
+/// The engine's times where another's are 1.
+pub fn engine_over_others(results: &Results) -> Table {
+    let mut table = Table::new(&["engine over", "Whole", "Rotation", "Fallback"]);
+    for other in results.names() {
+        let ratios = COMMON.map(|measure| ratio(results.ratio(ENGINE.name, other, measure)));
+        if other != ENGINE.name {
+            let name = [other.to_string()].into_iter();
+            table.rows.push(name.chain(ratios).collect());
+        }
+    }
+    table
+}
+
+/// How Run's time grows with its allowance.
+pub fn growth(results: &Results) -> Table {
+    let mut table = Table::new(&[
+        "allowance",
+        "micro-rotations",
+        "engine, ns",
+        "ns a rotation",
+        "ps a micro-rotation",
+        "C plain, ns",
+        "ratio",
+    ]);
+    for allowance in Measure::ALLOWANCES {
+        let measure = Measure::Run(allowance);
+        let micro_rotations = micro_rotations(allowance);
+        let engine = results.nanoseconds(ENGINE.name, measure);
+        let each = |parts: f64| engine.map(|nanoseconds| nanoseconds / parts);
+        table.rows.push(vec![
+            allowance.to_string(),
+            grouped(micro_rotations),
+            number(engine),
+            number(each(f64::from(allowance))),
+            number(each(micro_rotations / 1000.0)),
+            number(results.nanoseconds(BASE.name, measure)),
+            ratio(results.ratio(ENGINE.name, BASE.name, measure)),
+        ]);
+    }
+    table
+}
+
+/// What each call takes of Whole's time.
+pub fn shares(results: &Results) -> Table {
+    let mut table = Table::new(&["call", "engine, ns", "of Whole", "C plain, ns", "ratio"]);
+    let whole = results.nanoseconds(ENGINE.name, Measure::Whole);
+    for (name, measure) in [
+        ("Load", Measure::Load),
+        ("Run, allowance 120", Measure::Run(120)),
+        ("Fetch", Measure::Fetch),
+        ("Whole", Measure::Whole),
+    ] {
+        let engine = results.nanoseconds(ENGINE.name, measure);
+        let share = engine.zip(whole).map(|(part, whole)| 100.0 * part / whole);
+        table.rows.push(vec![
+            name.to_string(),
+            number(engine),
+            share.map_or(NOTHING.to_string(), |share| format!("{share:.1}%")),
+            number(results.nanoseconds(BASE.name, measure)),
+            ratio(results.ratio(ENGINE.name, BASE.name, measure)),
+        ]);
+    }
+    table
+}
+
+/// The micro-rotations of columns in this many rotations from the first on.
+fn micro_rotations(rotations: u16) -> f64 {
+    let turns = schedule::turns().into_iter().take(usize::from(rotations));
+    turns.map(|turn| ((32 - turn.column) * STEPS) as f64).sum()
+}
+
+fn ratio_time_cycles(results: &Results, name: &str, measure: Measure) -> [String; 3] {
+    let time = results.nanoseconds(name, measure);
+    let clock = results.cycles_per_nanosecond();
+    let cycles = time.zip(clock).map(|(time, clock)| time * clock);
+    [
+        ratio(results.ratio(name, BASE.name, measure)),
+        number(time),
+        number(cycles),
+    ]
+}
+
+fn ratio(value: Option<f64>) -> String {
+    value.map_or(NOTHING.to_string(), |ratio| format!("{ratio:.3}"))
+}
+
+fn number(value: Option<f64>) -> String {
+    value.map_or(NOTHING.to_string(), grouped)
+}
+
+#[cfg(test)]
+mod tests {
+    use super::*;
+
+    #[test]
+    fn a_factorization_has_91840_micro_rotations() {
+        assert_eq!(micro_rotations(120), 91_840.0);
+        assert_eq!(micro_rotations(1), 896.0);
+    }
+}

@@ -1,0 +1,69 @@
+//! The versions in C, as `build.rs` compiled them.
+
+use crate::contenders::Contender;
+
+/// Declares the calls of calls.c under a version's prefix, and makes a contender of them. What they
+/// take pointers to is always a whole record, area or buffer.
+macro_rules! version {
+    ($version:ident, $name:literal) => {
+        pub mod $version {
+            use crate::contenders::{Area, Buffer, Contender, Record};
+
+            extern "C" {
+                #[link_name = concat!(stringify!($version), "_load")]
+                fn load(record: &Record, area: &mut Area) -> u8;
+                #[link_name = concat!(stringify!($version), "_run")]
+                fn run(turn: u32, allowance: u16, area: &mut Area) -> u32;
+                #[link_name = concat!(stringify!($version), "_fetch")]
+                fn fetch(area: &Area, buffer: &mut Buffer);
+                #[link_name = concat!(stringify!($version), "_whole")]
+                fn whole(
+                    record: &Record,
+                    area: &mut Area,
+                    buffer: &mut Buffer,
+                    heard: &mut u8,
+                ) -> u32;
+            }
+
+            // SAFETY: the calls stay within what they are lent; `run` needs a turn number to 120.
+            pub const CONTENDER: Contender = Contender {
+                name: $name,
+                load: |record, area| unsafe { load(record, area) },
+                run: |turn, allowance, area| unsafe {
+                    run(turn.min(hubqr::TURNS), allowance, area)
+                },
+                fetch: |area, buffer| unsafe { fetch(area, buffer) },
+                whole: |record, area, buffer| {
+                    let mut heard = 0;
+                    let clamps = unsafe { whole(record, area, buffer, &mut heard) };
+                    (heard, clamps)
+                },
+            };
+        }
+    };
+}
+
+version!(gcc_plain, "C plain, gcc");
+version!(gcc_wide, "C wide, gcc");
+version!(gcc_narrow, "C narrow, gcc");
+#[cfg(clang)]
+version!(clang_plain, "C plain, clang");
+#[cfg(clang)]
+version!(clang_wide, "C wide, clang");
+#[cfg(clang)]
+version!(clang_narrow, "C narrow, clang");
+
+/// The versions that were compiled, each shape by one compiler after the other.
+pub fn all() -> Vec<Contender> {
+    vec![
+        gcc_plain::CONTENDER,
+        #[cfg(clang)]
+        clang_plain::CONTENDER,
+        gcc_wide::CONTENDER,
+        #[cfg(clang)]
+        clang_wide::CONTENDER,
+        gcc_narrow::CONTENDER,
+        #[cfg(clang)]
+        clang_narrow::CONTENDER,
+    ]
+}

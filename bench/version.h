@@ -1,0 +1,37 @@
+/*
+ * What the versions in C share. Each is compiled with a name of its own for VERSION, the prefix of all its symbols, so that
+ * several stand in one program: where VERSION is gcc_plain, NAME(load) is gcc_plain_load.
+ */
+#ifndef VERSION_H
+#define VERSION_H
+
+#include <stdint.h>
+
+#define JOINED(a, b) a##_##b
+#define JOIN(a, b) JOINED(a, b)
+#define NAME(name) JOIN(VERSION, name)
+
+enum { ROWS = 16, COLUMNS = 32, STEPS = 28, TURNS = 120 };
+enum { INPUT_SCALE = 1 << 13, ONE = 1 << 30, GAIN = 652032874 };
+
+/* One turn of two rows of the area, from the leading column on. Answers the clamps. */
+uint32_t NAME(rotate_plain)(int32_t *upper, int32_t *lower, int leading);
+uint32_t NAME(rotate_wide)(int32_t *upper, int32_t *lower, int leading);
+uint32_t NAME(rotate_narrow)(int32_t *upper, int32_t *lower, int leading);
+
+/* A word after the micro-steps: the gain taken back, rounded. */
+static inline int64_t scaled(int64_t w)
+{
+    return (w * GAIN + (1 << 29)) >> 30;
+}
+
+/* A word as it is stored: scaled, and clamped to 32 bits, which counts if it alters the word. */
+static inline int32_t clamped(int64_t w, uint32_t *clamps)
+{
+    int64_t s = scaled(w);
+    int64_t stored = s < INT32_MIN ? INT32_MIN : s > INT32_MAX ? INT32_MAX : s;
+    *clamps += stored != s;
+    return (int32_t)stored;
+}
+
+#endif

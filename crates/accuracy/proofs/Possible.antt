@@ -1,0 +1,165 @@
+-- The premise of demand 3 can be met: for every accepted record by a Run of 120 and a Fetch, which is accepted, with refused calls before, between and
+-- after them; a record is accepted, and a record of zeros is refused. Assumes nothing.
+use mathlib.Core.Path.{_≡_, refl, sym, ap, _∙_, subst}
+use mathlib.Core.List.{List, [], _∷_, _++_, append-nil}
+use Prim.Native.Nat.{ℕ, zero, suc, _≤_, _<_}
+use native.Mathlib.Omega.{arith}
+use lib.Dec.{lit<, lit≤}
+use lib.IntN.{pos}
+use lib.ListN.{length, getD, replicate, length-append}
+use Rattle.lists.specs.Lists.{allBelow}
+use Rattle.records.specs.Matrix.{partOf, zeroElement, allZero}
+use Rattle.engine.specs.Rotations.{rotationsMade}
+use Rattle.engine.specs.Load.{loadRefusal}
+use Rattle.engine.specs.Run.{RunOutcome, runMade, runBy, runOf}
+use Rattle.engine.proofs.Tests.{run-accepted, run-passes, fetch-accepted}
+use Rattle.accuracy.specs.Demand3.{loaded, other, Call, run, fetch, State, wordsOf, refusal, Accepted, InStep, moved, after, afterAll, Load, start, EachInStep, wholeRun, wholeFetch}
+use Rattle.accuracy.proofs.Calls.{run-cases, left-same, first, start-is, room, Holds, holds-start, holds-next, fetch-iff}
+
+-- ---- a refused call changes nothing
+
+pub refused-stays : (s : State) (c : Call) → (Accepted s c → ⊥) → after s c ≡ s
+unfolding runOf
+refused-stays s (fetch f) n = refl
+refused-stays s (run r) n =
+    run-cases (refusal s (run r)) (r .next) (r .budget) (wordsOf s (r .lent)) (λ k o. (k ≡ 0 → ⊥) → moved s r (o .workspace) (o .answer) ≡ s)
+    (λ m q i. record { workspace = left-same s (r .lent) i; next = s .next; granted = s .granted }) (λ q. absurd (q refl)) n
+
+-- ---- the premise, call by call
+
+AllInStep : State → List Call → Type 0
+AllInStep s [] = Unit {0}
+AllInStep s (c ∷ calls) = (Accepted s c → InStep s c) × AllInStep (after s c) calls
+
+each-of : (s : State) (calls before rest : List Call) (c : Call) → AllInStep s calls → calls ≡ before ++ c ∷ rest → Accepted (afterAll s before) c → InStep (afterAll s before) c
+unfolding AllInStep afterAll
+each-of s [] before rest c a e = absurd (omega (arith, ap length e, length-append before (c ∷ rest)))
+each-of s (x ∷ xs) [] rest c a e = let h : x ≡ c = cc in subst (λ (d : Call). Accepted s d → InStep s d) h (a .0)
+each-of s (x ∷ xs) (y ∷ ys) rest c a e =
+    let h : x ≡ y = cc in
+    let t : xs ≡ ys ++ c ∷ rest = cc in
+    subst (λ (d : Call). Accepted (afterAll (after s d) ys) c → InStep (afterAll (after s d) ys) c) h (each-of (after s x) xs ys rest c (a .1) t)
+
+-- ---- refused calls among others
+
+-- each call of the list is refused in the state s
+unfoldable pub AllRefused : State → List Call → Type 0
+AllRefused s [] = Unit {0}
+AllRefused s (c ∷ calls) = (Accepted s c → ⊥) × AllRefused s calls
+
+skip : (s : State) (calls rest : List Call) → AllRefused s calls → AllInStep s rest → AllInStep s (calls ++ rest)
+unfolding AllRefused AllInStep
+skip s [] rest r a = a
+skip s (c ∷ calls) rest r a =
+    ((λ z. absurd (r .0 z)), subst (λ (t : State). AllInStep t (calls ++ rest)) (sym (refused-stays s c (r .0))) (skip s calls rest (r .1) a))
+
+skipped : (s : State) (calls rest : List Call) → AllRefused s calls → afterAll s (calls ++ rest) ≡ afterAll s rest
+unfolding AllRefused afterAll
+skipped s [] rest r = refl
+skipped s (c ∷ calls) rest r = ap (λ (t : State). afterAll t (calls ++ rest)) (refused-stays s c (r .0)) ∙ skipped s calls rest (r .1)
+
+-- ---- a Run of 120 and a Fetch
+
+-- the state after the Run
+abbrev pub ended : Load → State
+ended l = after (start l) (run wholeRun)
+
+module _ (l : Load) where
+  run-in-step : InStep (start l) (run wholeRun)
+  run-in-step = (refl, sym (ap (λ (s : State). s .next) (start-is l)))
+
+  ended-holds : Holds l (ended l)
+  ended-holds = holds-next l (start l) (run wholeRun) (holds-start l) (λ z. run-in-step)
+
+  pub run-made : runOf 0 120 (first l) ≡ runMade 0 120 (first l)
+  unfolding runOf runBy
+  run-made = rw (run-passes 0 (first l) (record { room = room l; before = lit≤ tt }))
+
+  pub ended-is : ended l ≡ record { workspace = rotationsMade 0 120 (first l) .words; next = 120; granted = 120 }
+  unfolding runMade
+  ended-is =
+      ap (λ (s : State). after s (run wholeRun)) (start-is l)
+      ∙ ap (λ (o : RunOutcome). moved (record { workspace = first l; next = 0; granted = 0 }) wholeRun (o .workspace) (o .answer)) run-made
+
+  ended-granted : ended l .granted ≡ 120
+  ended-granted = ap (λ (s : State). s .granted) ended-is
+
+  pub fetch-in-step : (buffer : List ℕ) → InStep (ended l) (fetch (wholeFetch buffer))
+  fetch-in-step buffer = (refl, sym (ap (λ (s : State). s .next) ended-is))
+
+  pub fetch-taken : (buffer : List ℕ) → 2049 ≤ length buffer → Accepted (ended l) (fetch (wholeFetch buffer))
+  fetch-taken buffer space = fetch-iff l (ended l) ended-holds (wholeFetch buffer) (fetch-in-step buffer) .1 (omega (arith, ended-granted), space)
+
+-- the list meets the premise, and its Fetch is accepted
+pub record Possible (l : Load) (a b c : List Call) (buffer : List ℕ) : Type 0 where
+  pub in-step : EachInStep l (a ++ run wholeRun ∷ (b ++ fetch (wholeFetch buffer) ∷ c))
+  pub accepted : Accepted (afterAll (start l) (a ++ run wholeRun ∷ b)) (fetch (wholeFetch buffer))
+
+-- with any refused calls before, between and after the two
+pub possible : (l : Load) (a b c : List Call) (buffer : List ℕ) → AllRefused (start l) a → AllRefused (ended l) b → AllRefused (ended l) c → 2049 ≤ length buffer → Possible l a b c buffer
+unfolding EachInStep AllInStep afterAll
+possible l a b c buffer ra rb rc space = record {
+  in-step = λ d p. each-of (start l) (a ++ run wholeRun ∷ (b ++ fetch (wholeFetch buffer) ∷ c)) (p .before) (p .rest) d all (p .is);
+  accepted = subst (λ (s : State). Accepted s (fetch (wholeFetch buffer))) (sym there) (fetch-taken l buffer space);
+}
+  where
+    last : AllInStep (ended l) c
+    last = subst (AllInStep (ended l)) (append-nil c) (skip (ended l) c [] rc tt)
+
+    all : AllInStep (start l) (a ++ run wholeRun ∷ (b ++ fetch (wholeFetch buffer) ∷ c))
+    all = skip (start l) a (run wholeRun ∷ (b ++ fetch (wholeFetch buffer) ∷ c)) ra
+        ((λ z. run-in-step l), skip (ended l) b (fetch (wholeFetch buffer) ∷ c) rb ((λ z. fetch-in-step l buffer), last))
+
+    there : afterAll (start l) (a ++ run wholeRun ∷ b) ≡ ended l
+    there = skipped (start l) a (run wholeRun ∷ b) ra ∙ ap (afterAll (ended l)) (sym (append-nil b)) ∙ skipped (ended l) b [] rb
+
+-- the two alone: what an accepted Whole does
+pub alone : (l : Load) (buffer : List ℕ) → 2049 ≤ length buffer → Possible l [] [] [] buffer
+unfolding AllRefused
+alone l buffer space = possible l [] [] [] buffer tt tt tt space
+
+-- ---- refused calls: a Run past the last turn, a Run on a short workspace, a Fetch before the last turn, a Fetch with a short buffer
+
+unfoldable pub stray : List Call
+stray =
+    run (record { next = 121; budget = 7; lent = loaded })
+    ∷ run (record { next = 0; budget = 120; lent = other [] })
+    ∷ fetch (record { next = 119; lent = loaded; buffer = replicate 2049 0 })
+    ∷ fetch (record { next = 120; lent = loaded; buffer = [] })
+    ∷ []
+
+stray-refused : (s : State) → AllRefused s stray
+unfolding AllRefused stray
+stray-refused s = (
+  (λ z. omega (arith, run-accepted 121 (s .workspace) z .before)),
+  (
+    (λ z. omega (arith, run-accepted 0 [] z .room)),
+    ((λ z. omega (arith, fetch-accepted 119 (s .workspace) (replicate 2049 0) z .last)), ((λ z. omega (arith, fetch-accepted 120 (s .workspace) [] z .space)), tt)),
+  ),
+)
+
+pub mixed : (l : Load) (buffer : List ℕ) → 2049 ≤ length buffer → Possible l stray stray stray buffer
+mixed l buffer space = possible l stray stray stray buffer (stray-refused (start l)) (stray-refused (ended l)) (stray-refused (ended l)) space
+
+-- ---- a record is accepted: a single element 1
+
+zeros : (n k : ℕ) → _≡_ {A = ℕ} (getD (replicate n 0) k 0) 0
+zeros zero k = refl
+zeros (suc n) zero = refl
+zeros (suc n) (suc k) = zeros n k
+
+pub some-load : Load
+unfolding loadRefusal allZero allBelow zeroElement partOf
+some-load = record { bytes = 1 ∷ 0 ∷ 1 ∷ replicate 254 0; lent = replicate 512 (pos 0); small = small; accepted = refl }
+  where
+    small : (k : ℕ) → getD (1 ∷ 0 ∷ 1 ∷ replicate 254 0) k 0 < 256
+    small zero = lit< tt
+    small (suc zero) = lit< tt
+    small (suc (suc zero)) = lit< tt
+    small (suc (suc (suc k))) = rw (zeros 254 k) (lit< tt)
+
+-- ---- a record of zeros is refused
+
+pub zeros-refused : loadRefusal (1 ∷ replicate 256 0) (replicate 512 (pos 0)) ≡ 4
+unfolding loadRefusal allZero allBelow zeroElement partOf
+zeros-refused = refl

@@ -1,0 +1,57 @@
+-- An accepted Whole is Load, a Run of 120 and a Fetch, so demand 3 holds for it too. Assumes nothing.
+use mathlib.Core.Path.{_≡_, sym, ap, _∙_}
+use mathlib.Core.List.{List, _++_}
+use Prim.Native.Nat.{ℕ, _≤_}
+use lib.ListN.{length, drop}
+use Rattle.lists.specs.Lists.{filled}
+use Rattle.records.specs.Matrix.{heardByte}
+use Rattle.records.specs.Result.{R, Q, resultRecord}
+use Rattle.engine.specs.Rotations.{rotationsMade}
+use Rattle.engine.specs.Load.{loadOf, loadBy, loadReply}
+use Rattle.engine.specs.Run.{RunOutcome, runMade, runReply}
+use Rattle.engine.specs.Whole.{WholeOutcome, wholeRefusal, wholeDone, wholeBy, wholeOf, wholeReply}
+use Rattle.engine.proofs.Tests.{whole-accepted}
+use Rattle.accuracy.specs.Demand3.{State, fetched, afterAll, Load, start, reply, Kept, wholeRun, wholeFetch, wholeCalls, WholeKept, WholeDemand3}
+use Rattle.accuracy.proofs.Loading.{loadedWords}
+use Rattle.accuracy.proofs.Calls.{first, start-is, fetch-written, demand3}
+use Rattle.accuracy.proofs.Possible.{ended, ended-is, run-made, fetch-in-step, fetch-taken, alone}
+
+module _ (l : Load) (buffer : List ℕ) (space : 2049 ≤ length buffer) (passed : wholeRefusal (l .bytes) (l .lent) buffer ≡ 0) where
+  kept : Kept l (wholeCalls buffer)
+  kept = demand3 l (wholeCalls buffer) (alone l buffer space .in-step)
+
+  whole-is : wholeOf (l .bytes) (l .lent) buffer ≡ wholeDone (l .bytes) (l .lent) buffer
+  unfolding wholeOf wholeBy
+  whole-is = rw passed
+
+  words : wholeOf (l .bytes) (l .lent) buffer .workspace ≡ ended l .workspace
+  unfolding wholeDone loadedWords
+  words = ap (λ (o : WholeOutcome). o .workspace) whole-is ∙ sym (ap (λ (s : State). s .workspace) (ended-is l))
+
+  written : wholeOf (l .bytes) (l .lent) buffer .buffer ≡ fetched (ended l) (wholeFetch buffer)
+  unfolding wholeDone loadedWords filled resultRecord
+  written =
+      ap (λ (o : WholeOutcome). o .buffer) whole-is
+      ∙ sym (fetch-written (ended l) (wholeFetch buffer) (fetch-taken l buffer space) (fetch-in-step l buffer)
+      ∙ ap (λ (s : State). resultRecord (R (s .workspace)) (Q (s .workspace)) ++ drop 2049 buffer) (ended-is l))
+
+  heard : loadReply (loadOf (l .bytes) (l .lent) .answer) .heard ≡ heardByte (l .bytes)
+  unfolding loadOf loadBy
+  heard = rw (l .accepted)
+
+  clamps : reply (start l) wholeRun .clamps ≡ rotationsMade 0 120 (first l) .saturations
+  unfolding runMade
+  clamps = ap (λ (s : State). reply s wholeRun .clamps) (start-is l) ∙ ap (λ (o : RunOutcome). runReply 0 (o .answer) .clamps) (run-made l)
+
+  answer : wholeReply (wholeOf (l .bytes) (l .lent) buffer .answer) ≡ record { number = 0; heard = loadReply (loadOf (l .bytes) (l .lent) .answer) .heard; clamps = reply (start l) wholeRun .clamps }
+  unfolding wholeDone loadedWords
+  answer = ap (λ (o : WholeOutcome). wholeReply (o .answer)) whole-is ∙ rw (heard, clamps)
+
+  whole-kept : WholeKept l buffer
+  unfolding afterAll
+  whole-kept = record { kept = kept; accepted = fetch-taken l buffer space; answer = answer; words = words; written = written }
+
+pub whole-demand3 : WholeDemand3
+whole-demand3 bytes lent buffer small passed =
+    let a = whole-accepted bytes lent buffer passed in
+    (a .2, whole-kept (record { bytes = bytes; lent = lent; small = small; accepted = a .2 }) buffer (a .1) passed)

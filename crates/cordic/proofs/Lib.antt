@@ -1,0 +1,8 @@
+-- What the micro-rotations do to any 32-bit words, and the error of one rotation.
+pub mod Growth
+pub mod Words
+pub mod Step
+pub mod Telescope
+pub mod Residue
+pub mod Scale
+pub mod Rotation

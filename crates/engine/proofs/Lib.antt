@@ -1,0 +1,6 @@
+-- Laws that several proofs cite, and the proofs of the theorems that the engine offers.
+pub mod Tests
+pub mod Saturations
+pub mod Lengths
+pub mod Spread
+pub mod RoundTrip

@@ -1,0 +1,4 @@
+-- Laws of the rotation that several proofs cite.
+pub mod Pairs
+pub mod Written
+pub mod Places

@@ -1,0 +1,45 @@
+-- `hubqr_run` meets its contract: the answer's values are those of its definition. Assumes nothing.
+use mathlib.Core.Path.{sym, ap, _∙_}
+use Rattle.engine.specs.Run.{RunOutcome, runReply}
+use borrow.Author.Needs.{needs}
+use Rattle.hubqr.proofs.hubqr_run.Statement.{statement}
+use Rattle.hubqr.proofs.hubqr_run.Tie as tie
+
+run-requires : tie.Need-run-requires
+run-requires c κs = search needs
+
+enum-known-answer : tie.Need-enum-known-answer
+enum-known-answer c = search needs
+
+enum-known-answer-2 : tie.Need-enum-known-answer-2
+enum-known-answer-2 c = search needs
+
+same-length : tie.Need-same-length
+same-length c = search needs
+
+returns : tie.Need-returns
+returns c =
+    let e = c .before .before .before .before .run .ensures in
+    let given = c .before .before .before .before .before .before .args .turn in
+    (ap (runReply given) (sym (c .before .answer .given .1)) ∙ ap (λ (o : RunOutcome). runReply given (o .answer)) e, ap (λ (o : RunOutcome). o .workspace) e)
+
+same-length-2 : tie.Need-same-length-2
+same-length-2 c = search needs
+
+returns-2 : tie.Need-returns-2
+returns-2 c =
+    let e = c .before .before .before .before .run .ensures in
+    let given = c .before .before .before .before .before .before .args .turn in
+    (ap (runReply given) (sym (c .before .answer2 .given .1)) ∙ ap (λ (o : RunOutcome). runReply given (o .answer)) e, ap (λ (o : RunOutcome). o .workspace) e)
+
+pub hubqr-run-spec : {M : Type 1} → statement M
+hubqr-run-spec =
+    tie.close
+    (tie.spec
+    run-requires
+    enum-known-answer
+    enum-known-answer-2
+    same-length
+    returns
+    same-length-2
+    returns-2)

@@ -1,0 +1,3 @@
+-- The words in which bounds and sums over the whole numbers are stated.
+pub mod Within
+pub mod Sum

@@ -1,0 +1,1 @@
+// Whole numbers: what the kit's library lacks over ℤ. Definitions and laws, and no code.

@@ -1,0 +1,4 @@
+-- Laws of lists by position, as loops and readers of records want them.
+pub mod Tabulate
+pub mod Filling
+pub mod Passing

@@ -1,0 +1,62 @@
+-- `workspace_word` meets its contract, which is that of `signed32` at the four bytes. Assumes nothing.
+use mathlib.Core.Path.{_∙_}
+use Rattle.records.specs.Result.{recordWord}
+use mir.Syntax.{w32}
+use Rattle.integers.proofs.Magnitude.{read-back}
+use borrow.Author.Needs.{needs}
+use Rattle.records.proofs.result.workspace_word.Statement.{statement}
+use Rattle.records.proofs.result.workspace_word.Tie as tie
+
+slot-requires : tie.Need-slot-requires
+slot-requires c κs = search needs
+
+mul-at : tie.Need-mul-at
+mul-at c = search needs
+
+add-at : tie.Need-add-at
+add-at c = search needs
+
+shared-slice-read-signed32 : tie.Need-shared-slice-read-signed32
+shared-slice-read-signed32 c = search needs
+
+add-signed32 : tie.Need-add-signed32
+add-signed32 c = search needs
+
+shared-slice-read-signed32-2 : tie.Need-shared-slice-read-signed32-2
+shared-slice-read-signed32-2 c = search needs
+
+add-signed32-2 : tie.Need-add-signed32-2
+add-signed32-2 c = search needs
+
+shared-slice-read-signed32-3 : tie.Need-shared-slice-read-signed32-3
+shared-slice-read-signed32-3 c = search needs
+
+add-signed32-3 : tie.Need-add-signed32-3
+add-signed32-3 c = search needs
+
+shared-slice-read-signed32-4 : tie.Need-shared-slice-read-signed32-4
+shared-slice-read-signed32-4 c = search needs
+
+signed32-requires : tie.Need-signed32-requires
+signed32-requires c κs = search needs
+
+returns : tie.Need-returns
+unfolding recordWord
+returns c = rw (← c .before .before .before .before .before .slot .ensures) (read-back w32 (c .signed32 .ok) ∙ c .signed32 .ensures)
+
+pub workspace-word-spec : {M : Type 1} → statement M
+workspace-word-spec =
+    tie.close
+    (tie.spec
+    slot-requires
+    mul-at
+    add-at
+    shared-slice-read-signed32
+    add-signed32
+    shared-slice-read-signed32-2
+    add-signed32-2
+    shared-slice-read-signed32-3
+    add-signed32-3
+    shared-slice-read-signed32-4
+    signed32-requires
+    returns)

@@ -1,0 +1,23 @@
+-- Document 01: numbers in records are two's complement, high byte first. `toZ` and `ofZ` are the language's own two's complement:
+-- `toZ w n` is the signed number that the bits n stand for, and `ofZ w z` the bits of z. Assumes nothing.
+use Prim.Native.Nat.{ℕ, _+_, _-_, _*_, _/_, _%_, _^_}
+use mathlib.Core.List.{List, [], _∷_}
+use lib.IntN.{ℤ}
+use mir.Syntax.{w16, w32}
+use mir.Val.{toZ, ofZ}
+
+-- the signed 16-bit number in two bytes
+abbrev pub int16 : ℕ → ℕ → ℤ
+int16 high low = toZ w16 (high * 256 + low)
+
+-- the signed 32-bit word in four bytes
+abbrev pub int32 : ℕ → ℕ → ℕ → ℕ → ℤ
+int32 a b c d = toZ w32 (a * 16777216 + b * 65536 + c * 256 + d)
+
+-- byte number p of a word, 0 to 3, high byte first
+abbrev pub byteOf : ℤ → ℕ → ℕ
+byteOf z p = ofZ w32 z / 2 ^ (24 - 8 * p) % 256
+
+-- the four bytes of a word
+abbrev pub wordBytes : ℤ → List ℕ
+wordBytes z = byteOf z 0 ∷ byteOf z 1 ∷ byteOf z 2 ∷ byteOf z 3 ∷ []

@@ -1,0 +1,2 @@
+-- What the program writes.
+pub mod Response

@@ -1,0 +1,27 @@
+// What the program makes of its input, on slices: Whole, and the result record or the refusal record.
+use engine::whole::WholeAnswer;
+ghost use mathlib.Core.Path.{_≡_};
+ghost use Prim.Native.Nat.{_≤_};
+ghost use lib.ListN.{length, take};
+ghost use Rattle.respond.specs.Response.{response};
+
+// Puts the record that answers the input at the start of output, and answers its length.
+pub fn respond(input: &[u8], output: &mut [u8; 2049]) -> usize
+    ensures bytes { λ r. ⌜ take r (now (output .exit)) ≡ response (now (input .entry)) ⌝ }
+    ensures fits { λ r. ⌜ r ≤ length (now (output .exit)) ⌝ }
+{
+    let mut workspace = [0i32; 512];
+    let answer = engine::whole::whole(input, &mut workspace[..], &mut output[..]);
+    match answer {
+        WholeAnswer::Factored {
+            heard: _,
+            clamps: _,
+        } => 2049,
+        WholeAnswer::Refused { number } => {
+            let refusal = records::refusal::refusal_record(number);
+            output[0] = refusal[0];
+            output[1] = refusal[1];
+            2
+        }
+    }
+}

@@ -1,0 +1,3 @@
+-- The order of the rotations.
+pub mod Schedule
+pub mod Pairing

@@ -1,0 +1,254 @@
+/* Accepted input: replies, every word and byte that a call writes, and the guards behind them. */
+#include "check.h"
+
+#include <stdlib.h>
+#include <string.h>
+
+static uint8_t matrix[HUBQR_MATRIX_RECORD_BYTES];
+
+/* Part of element (row, column) of `matrix`: the real one for offset 0, the imaginary one for offset 2. */
+static int32_t part(int row, int column, int offset)
+{
+    const uint8_t *at = matrix + 1 + 4 * (8 * row + column) + offset;
+    int32_t value = at[0] * 256 + at[1];
+    return value < 32768 ? value : value - 65536;
+}
+
+/* Entry (i, j) of the matrix made real, 16 by 16. */
+static int32_t real_entry(int i, int j)
+{
+    if (i / 8 == j / 8) {
+        return part(i % 8, j % 8, 0);
+    }
+    return i < 8 ? -part(i, j - 8, 2) : part(i - 8, j, 2);
+}
+
+static void load_matrix(void)
+{
+    uint32_t turn = JUNK;
+    uint8_t heard = JUNK;
+    CHECK("Load", hubqr_load(matrix, sizeof matrix, area, AREA_LENT, &turn, &heard) == HUBQR_ACCEPTED);
+    CHECK("Load answers turn number 0", turn == 0);
+    CHECK("Load of a matrix that every antenna heard", heard == 0xff);
+}
+
+static void test_load(void)
+{
+    int words_right = 1;
+    scribble();
+    remember();
+    load_matrix();
+    for (int i = 0; i < HUBQR_AREA_ROWS; i++) {
+        for (int j = 0; j < 16; j++) {
+            int32_t one = i == j ? HUBQR_Q_ONE : 0;
+            words_right &= area[HUBQR_AREA_COLUMNS * i + j] == real_entry(i, j) * 8192;
+            words_right &= area[HUBQR_AREA_COLUMNS * i + 16 + j] == one;
+        }
+    }
+    CHECK("Load fills all 512 words", words_right);
+    CHECK("Load leaves what is behind 512 words", guards_unchanged());
+}
+
+/* One element in column k, in its real or its imaginary part, sets bit k alone. */
+static void test_heard(void)
+{
+    for (int k = 0; k < 8; k++) {
+        uint8_t record[HUBQR_MATRIX_RECORD_BYTES] = {HUBQR_KIND_MATRIX};
+        uint32_t turn = JUNK;
+        uint8_t heard = JUNK;
+        set_element(record, 7 - k, k, (int16_t)(k % 2), (int16_t)(1 - k % 2));
+        CHECK("Load of a single 1", hubqr_load(record, sizeof record, area, AREA_LENT, &turn, &heard) == HUBQR_ACCEPTED);
+        CHECK("heard byte of a single 1", heard == 1u << k);
+    }
+}
+
+/* Runs from turn 0 to the end with the same allowance in each call. */
+static void run_all(uint16_t allowance)
+{
+    uint32_t turn = 0;
+    while (turn < HUBQR_TURNS) {
+        uint32_t left = HUBQR_TURNS - turn;
+        uint32_t due = allowance < left ? allowance : left;
+        uint32_t next = JUNK, made = JUNK, clamps = JUNK;
+        CHECK("Run", hubqr_run(turn, allowance, area, AREA_LENT, &next, &made, &clamps) == HUBQR_ACCEPTED);
+        CHECK("Run makes the smaller of allowance and turns left", made == due && next == turn + due);
+        CHECK("Run of a loaded area counts no clamp", clamps == 0);
+        turn = next;
+    }
+}
+
+/* A Run that makes no turn: nothing changes and the turn number stays. */
+static void run_none(const char *what, uint32_t turn, uint16_t allowance)
+{
+    uint32_t next = JUNK, made = JUNK, clamps = JUNK;
+    remember();
+    CHECK(what, hubqr_run(turn, allowance, area, AREA_LENT, &next, &made, &clamps) == HUBQR_ACCEPTED);
+    CHECK(what, next == turn && made == 0 && clamps == 0);
+    CHECK(what, unchanged());
+}
+
+static void test_run(void)
+{
+    static const uint16_t allowances[] = {1, 7, 119, 120, 121, 65535};
+    static int32_t first[HUBQR_AREA_WORDS];
+    for (size_t k = 0; k < sizeof allowances / sizeof *allowances; k++) {
+        scribble();
+        remember();
+        load_matrix();
+        run_all(allowances[k]);
+        CHECK("Run leaves what is behind 512 words", guards_unchanged());
+        if (k == 0) {
+            memcpy(first, area, sizeof first);
+        }
+        CHECK("instalments make no difference", memcmp(area, first, sizeof first) == 0);
+    }
+    run_none("Run at 120", HUBQR_TURNS, 65535);
+    run_none("Run with allowance 0", 60, 0);
+}
+
+/* The last turn, which is column 14, rows 14 and 15, made of the given leading pair and of 0 elsewhere. */
+static void last_turn(int32_t upper, int32_t lower, int32_t expected)
+{
+    uint32_t next = JUNK, made = JUNK, clamps = JUNK;
+    int32_t *up = area + HUBQR_AREA_COLUMNS * 14 + 14, *low = area + HUBQR_AREA_COLUMNS * 15 + 14;
+    memset(area, 0, sizeof area);
+    *up = upper;
+    *low = lower;
+    CHECK("last turn", hubqr_run(119, 1, area, AREA_LENT, &next, &made, &clamps) == HUBQR_ACCEPTED);
+    CHECK("last turn", next == HUBQR_TURNS && made == 1 && clamps == 0);
+    CHECK("leading pair of the last turn", *up == expected && *low == 0);
+}
+
+static void test_turn_values(void)
+{
+    last_turn(1, 0, 17);
+    last_turn(0, 1, 1);
+    last_turn(-1, 0, 17);
+}
+
+/* Words as large as they can be, which no Load makes, are clamped in the upper row of columns 14 to 31. */
+static void test_clamps(void)
+{
+    uint32_t next = JUNK, made = JUNK, clamps = JUNK;
+    for (int k = 0; k < AREA_LENT; k++) {
+        area[k] = INT32_MAX;
+    }
+    CHECK("Run of huge words", hubqr_run(119, 1, area, AREA_LENT, &next, &made, &clamps) == HUBQR_ACCEPTED);
+    CHECK("Run counts clamps", clamps == 18);
+    CHECK("Run stores the clamped word", area[HUBQR_AREA_COLUMNS * 14 + 31] == INT32_MAX);
+}
+
+/* The word that stands in a result record at place k, R first and then Q transposed. */
+static int32_t recorded(const uint8_t *record, int k)
+{
+    const uint8_t *at = record + 1 + 4 * k;
+    int64_t value = (int64_t)at[0] << 24 | at[1] << 16 | at[2] << 8 | at[3];
+    return (int32_t)(value > INT32_MAX ? value - (INT64_C(1) << 32) : value);
+}
+
+static void test_fetch(void)
+{
+    int words_right = 1;
+    scribble();
+    load_matrix();
+    run_all(120);
+    remember();
+    CHECK("Fetch", hubqr_fetch(HUBQR_TURNS, area, AREA_LENT, buffer, BUFFER_LENT) == HUBQR_ACCEPTED);
+    CHECK("Fetch leaves what is behind 2,049 bytes", guards_unchanged());
+    CHECK("Fetch writes the kind byte", buffer[0] == HUBQR_KIND_RESULT);
+    for (int i = 0; i < HUBQR_AREA_ROWS; i++) {
+        for (int j = 0; j < 16; j++) {
+            words_right &= recorded(buffer, 16 * i + j) == area[HUBQR_AREA_COLUMNS * i + j];
+            words_right &= recorded(buffer, 256 + 16 * i + j) == area[HUBQR_AREA_COLUMNS * i + 16 + j];
+        }
+    }
+    CHECK("Fetch writes R, then Q transposed", words_right);
+}
+
+/* A fetched record read into another area, and fetched from there, is the same record. */
+static void test_read(void)
+{
+    uint8_t record[HUBQR_RESULT_RECORD_BYTES];
+    int32_t fetched[HUBQR_AREA_WORDS];
+    uint32_t turn = JUNK;
+    memcpy(record, buffer, sizeof record);
+    memcpy(fetched, area, sizeof fetched);
+    scribble();
+    remember();
+    CHECK("Read", hubqr_read(record, sizeof record, area, AREA_LENT, &turn) == HUBQR_ACCEPTED);
+    CHECK("Read answers turn number 120", turn == HUBQR_TURNS);
+    CHECK("Read fills all 512 words", memcmp(area, fetched, sizeof fetched) == 0);
+    CHECK("Fetch of what was read", hubqr_fetch(turn, area, AREA_LENT, buffer, BUFFER_LENT) == HUBQR_ACCEPTED);
+    CHECK("Fetch writes the record that was read", memcmp(buffer, record, sizeof record) == 0);
+    CHECK("Read and Fetch leave what is behind", guards_unchanged());
+}
+
+static void test_whole(void)
+{
+    uint8_t record[HUBQR_RESULT_RECORD_BYTES];
+    int32_t worked[HUBQR_AREA_WORDS];
+    uint32_t clamps = JUNK;
+    uint8_t heard = JUNK;
+    memcpy(record, buffer, sizeof record);
+    memcpy(worked, area, sizeof worked);
+    scribble();
+    remember();
+    CHECK("Whole", hubqr_whole(matrix, sizeof matrix, area, AREA_LENT, buffer, BUFFER_LENT, &heard, &clamps) == HUBQR_ACCEPTED);
+    CHECK("Whole answers heard byte and clamps", heard == 0xff && clamps == 0);
+    CHECK("Whole leaves R and Q in the area", memcmp(area, worked, sizeof worked) == 0);
+    CHECK("Whole writes the record of Load, Run and Fetch", memcmp(buffer, record, sizeof record) == 0);
+    CHECK("Whole leaves what is behind", guards_unchanged());
+}
+
+/* The header's scale. No column is longer than 2^30 and a little, so the sums stay within 64 bits. */
+static void test_scale(void)
+{
+    int within = 1;
+    for (int i = 0; i < 16; i++) {
+        for (int j = 0; j < 16; j++) {
+            int64_t error = -(int64_t)real_entry(i, j) * (INT64_C(1) << 43);
+            for (int k = 0; k < 16; k++) {
+                error += (int64_t)area[HUBQR_AREA_COLUMNS * k + 16 + i] * area[HUBQR_AREA_COLUMNS * k + j];
+            }
+            within &= error <= INT64_C(1) << 44 && error >= -(INT64_C(1) << 44);
+        }
+    }
+    CHECK("Q times R is 2^43 times the input, within 2^44", within);
+}
+
+/* Blocks of exactly the needed sizes on the heap, where valgrind sees a step past their end. */
+static void test_exact_sizes(void)
+{
+    uint8_t *record = malloc(HUBQR_MATRIX_RECORD_BYTES), *result = malloc(HUBQR_RESULT_RECORD_BYTES);
+    int32_t *words = malloc(HUBQR_AREA_WORDS * sizeof *words);
+    uint32_t turn, next, made, clamps;
+    uint8_t heard;
+    CHECK("memory for exact sizes", record && result && words);
+    make_matrix(record);
+    CHECK("Load", hubqr_load(record, HUBQR_MATRIX_RECORD_BYTES, words, HUBQR_AREA_WORDS, &turn, &heard) == HUBQR_ACCEPTED);
+    CHECK("Run", hubqr_run(turn, 120, words, HUBQR_AREA_WORDS, &next, &made, &clamps) == HUBQR_ACCEPTED);
+    CHECK("Fetch", hubqr_fetch(next, words, HUBQR_AREA_WORDS, result, HUBQR_RESULT_RECORD_BYTES) == HUBQR_ACCEPTED);
+    CHECK("same record as in longer lent memory", memcmp(result, buffer, HUBQR_RESULT_RECORD_BYTES) == 0);
+    CHECK("Read", hubqr_read(result, HUBQR_RESULT_RECORD_BYTES, words, HUBQR_AREA_WORDS, &turn) == HUBQR_ACCEPTED);
+    CHECK("Whole", hubqr_whole(record, HUBQR_MATRIX_RECORD_BYTES, words, HUBQR_AREA_WORDS, result, HUBQR_RESULT_RECORD_BYTES,
+                               &heard, &clamps) == HUBQR_ACCEPTED);
+    CHECK("same record again", memcmp(result, buffer, HUBQR_RESULT_RECORD_BYTES) == 0);
+    free(record);
+    free(result);
+    free(words);
+}
+
+void test_accepted(void)
+{
+    make_matrix(matrix);
+    test_load();
+    test_heard();
+    test_run();
+    test_turn_values();
+    test_clamps();
+    test_fetch();
+    test_read();
+    test_whole();
+    test_scale();
+    test_exact_sizes();
+}

@@ -1,0 +1,72 @@
+#include "check.h"
+
+#include <stdio.h>
+#include <stdlib.h>
+#include <string.h>
+
+int32_t area[AREA_LENT];
+uint8_t buffer[BUFFER_LENT];
+
+static int32_t area_before[AREA_LENT];
+static uint8_t buffer_before[BUFFER_LENT];
+static unsigned passed;
+
+void check(int holds, const char *what, const char *condition, const char *file, int line)
+{
+    if (!holds) {
+        fprintf(stderr, "hubqr C face: FAILED after %u checks: %s: %s (%s:%d)\n", passed, what, condition, file, line);
+        exit(EXIT_FAILURE);
+    }
+    passed++;
+}
+
+unsigned checks_passed(void)
+{
+    return passed;
+}
+
+void scribble(void)
+{
+    memset(area, 0x5a, sizeof area);
+    memset(buffer, 0xa5, sizeof buffer);
+}
+
+void remember(void)
+{
+    memcpy(area_before, area, sizeof area);
+    memcpy(buffer_before, buffer, sizeof buffer);
+}
+
+int unchanged(void)
+{
+    return memcmp(area, area_before, sizeof area) == 0 && memcmp(buffer, buffer_before, sizeof buffer) == 0;
+}
+
+int guards_unchanged(void)
+{
+    return memcmp(area + HUBQR_AREA_WORDS, area_before + HUBQR_AREA_WORDS, GUARDS * sizeof *area) == 0 &&
+           memcmp(buffer + HUBQR_RESULT_RECORD_BYTES, buffer_before + HUBQR_RESULT_RECORD_BYTES, GUARDS) == 0;
+}
+
+void set_element(uint8_t *record, int row, int column, int16_t real, int16_t imaginary)
+{
+    uint8_t *at = record + 1 + 4 * (8 * row + column);
+    at[0] = (uint8_t)((uint16_t)real >> 8);
+    at[1] = (uint8_t)((uint16_t)real & 0xff);
+    at[2] = (uint8_t)((uint16_t)imaginary >> 8);
+    at[3] = (uint8_t)((uint16_t)imaginary & 0xff);
+}
+
+void make_matrix(uint8_t record[HUBQR_MATRIX_RECORD_BYTES])
+{
+    record[0] = HUBQR_KIND_MATRIX;
+    for (int row = 0; row < 8; row++) {
+        for (int column = 0; column < 8; column++) {
+            int real = (row * 7919 + column * 4447 + 1) % 32768;
+            int imaginary = (row * 2741 + column * 6007 + 5) % 32768 - 32768;
+            set_element(record, row, column, (int16_t)real, (int16_t)imaginary);
+        }
+    }
+    set_element(record, 0, 0, 1, 32767);
+    set_element(record, 7, 7, -32768, -32768);
+}

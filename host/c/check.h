@@ -1,0 +1,35 @@
+/* What the tests of the C face share: counted checks, and an area and a buffer with guards behind them. */
+#ifndef CHECK_H
+#define CHECK_H
+
+#include "hubqr.h"
+
+/* Counts a check that holds; a check that fails ends the program with a message that names `what` and the condition. */
+#define CHECK(what, condition) check((condition), (what), #condition, __FILE__, __LINE__)
+void check(int holds, const char *what, const char *condition, const char *file, int line);
+unsigned checks_passed(void);
+
+/* A reply's value before a call, so that a reply that is not written shows. */
+enum { JUNK = 0x77 };
+
+/* What a call is lent. Both are longer than needed; the words and bytes behind the needed ones are guards. */
+enum { GUARDS = 5, AREA_LENT = HUBQR_AREA_WORDS + GUARDS, BUFFER_LENT = HUBQR_RESULT_RECORD_BYTES + GUARDS };
+extern int32_t area[AREA_LENT];
+extern uint8_t buffer[BUFFER_LENT];
+
+/* Fills area and buffer with a pattern that no call writes. */
+void scribble(void);
+/* Remembers area and buffer; `unchanged` compares with that, `guards_unchanged` looks at the guards only. */
+void remember(void);
+int unchanged(void);
+int guards_unchanged(void);
+
+/* A matrix record whose elements differ, with both ends of the 16-bit range among them, heard by all antennas. */
+void make_matrix(uint8_t record[HUBQR_MATRIX_RECORD_BYTES]);
+/* Sets element (row, column) of a matrix record. */
+void set_element(uint8_t *record, int row, int column, int16_t real, int16_t imaginary);
+
+void test_accepted(void);
+void test_refused(void);
+
+#endif

@@ -1,0 +1,228 @@
+//! The five calls with slices in and a `Result` out.
+//!
+//! Each `unsafe` block rests on the same facts: a slice's pointer and length describe memory that may
+//! be read, or written where it is `&mut`; Rust's borrows and locals do not overlap; and the archive
+//! touches nothing else and keeps no pointer.
+use crate::ffi;
+use crate::refusal::Refusal;
+
+/// What an accepted [`load`] answers.
+#[derive(Clone, Copy, Debug, PartialEq, Eq)]
+pub struct Loaded {
+    /// The turn number to hand to the next call: 0.
+    pub turn: u32,
+    /// Bit k is set when column k of the complex matrix has an element other than zero.
+    pub heard: u8,
+}
+
+/// What an accepted [`run`] answers.
+#[derive(Clone, Copy, Debug, PartialEq, Eq)]
+pub struct Progress {
+    /// The turn number to hand to the next call.
+    pub next: u32,
+    /// The turns made in this call.
+    pub made: u32,
+    /// The words cut to the 32-bit range in this call: 0 for an area that [`load`] filled.
+    pub clamps: u32,
+}
+
+/// What an accepted [`whole`] answers.
+#[derive(Clone, Copy, Debug, PartialEq, Eq)]
+pub struct Factored {
+    /// Bit k is set when column k of the complex matrix has an element other than zero.
+    pub heard: u8,
+    /// The words cut to the 32-bit range: 0.
+    pub clamps: u32,
+}
+
+/// Fills the area's 512 words from a matrix record.
+///
+/// Refuses, in this order, with [`Refusal::WrongKind`], [`Refusal::WrongLength`],
+/// [`Refusal::AreaTooShort`], [`Refusal::AllZero`].
+///
+/// ```
+/// let mut record = [0; hubqr::MATRIX_RECORD_BYTES];
+/// record[0] = hubqr::KIND_MATRIX;
+/// let mut area = [0; hubqr::AREA_WORDS];
+/// assert_eq!(hubqr::load(&record, &mut area), Err(hubqr::Refusal::AllZero));
+///
+/// record[2] = 1; // the real part of element (0, 0)
+/// let loaded = hubqr::load(&record, &mut area)?;
+/// assert_eq!((loaded.turn, loaded.heard), (0, 1));
+/// assert_eq!(area[0], 8192);
+/// # Ok::<(), hubqr::Refusal>(())
+/// ```
+pub fn load(record: &[u8], area: &mut [i32]) -> Result<Loaded, Refusal> {
+    let (mut turn, mut heard) = (0, 0);
+    // SAFETY: as said at the top of this file.
+    let number = unsafe {
+        ffi::hubqr_load(
+            record.as_ptr(),
+            record.len(),
+            area.as_mut_ptr(),
+            area.len(),
+            &mut turn,
+            &mut heard,
+        )
+    };
+    accepted(number).map(|()| Loaded { turn, heard })
+}
+
+/// Makes the smaller of `allowance` and the turns that remain, from turn number `turn` on. An
+/// allowance of 0 and a turn number of 120 are no errors.
+///
+/// Refuses, in this order, with [`Refusal::AreaTooShort`], [`Refusal::NoSuchTurn`].
+///
+/// ```
+/// # let record = [1; hubqr::MATRIX_RECORD_BYTES];
+/// # let mut area = [0; hubqr::AREA_WORDS];
+/// let turn = hubqr::load(&record, &mut area)?.turn;
+/// let progress = hubqr::run(turn, 100, &mut area)?;
+/// assert_eq!((progress.next, progress.made, progress.clamps), (100, 100, 0));
+/// let progress = hubqr::run(progress.next, 100, &mut area)?;
+/// assert_eq!((progress.next, progress.made, progress.clamps), (120, 20, 0));
+/// # Ok::<(), hubqr::Refusal>(())
+/// ```
+pub fn run(turn: u32, allowance: u16, area: &mut [i32]) -> Result<Progress, Refusal> {
+    let (mut next, mut made, mut clamps) = (0, 0, 0);
+    // SAFETY: as said at the top of this file.
+    let number = unsafe {
+        ffi::hubqr_run(
+            turn,
+            allowance,
+            area.as_mut_ptr(),
+            area.len(),
+            &mut next,
+            &mut made,
+            &mut clamps,
+        )
+    };
+    accepted(number).map(|()| Progress { next, made, clamps })
+}
+
+/// Writes the result record into the first 2,049 bytes of the buffer.
+///
+/// Refuses, in this order, with [`Refusal::AreaTooShort`], [`Refusal::NoSuchTurn`],
+/// [`Refusal::Unfinished`], [`Refusal::BufferTooShort`], [`Refusal::NotTriangular`]. The last never
+/// comes for an area that was loaded and worked with the turn numbers that were answered.
+///
+/// ```
+/// # let record = [1; hubqr::MATRIX_RECORD_BYTES];
+/// # let mut area = [0; hubqr::AREA_WORDS];
+/// # let mut result = [0; hubqr::RESULT_RECORD_BYTES];
+/// let turn = hubqr::load(&record, &mut area)?.turn;
+/// let early = hubqr::fetch(turn, &area, &mut result);
+/// assert_eq!(early, Err(hubqr::Refusal::Unfinished));
+///
+/// let turn = hubqr::run(turn, 120, &mut area)?.next;
+/// hubqr::fetch(turn, &area, &mut result)?;
+/// assert_eq!(result[0], hubqr::KIND_RESULT);
+/// # Ok::<(), hubqr::Refusal>(())
+/// ```
+pub fn fetch(turn: u32, area: &[i32], buffer: &mut [u8]) -> Result<(), Refusal> {
+    // SAFETY: as said at the top of this file.
+    let number = unsafe {
+        ffi::hubqr_fetch(
+            turn,
+            area.as_ptr(),
+            area.len(),
+            buffer.as_mut_ptr(),
+            buffer.len(),
+        )
+    };
+    accepted(number)
+}
+
+/// Fills the area's 512 words from a result record and answers its turn number, 120. A [`fetch`] from
+/// that area writes the same record again.
+///
+/// Refuses, in this order, with [`Refusal::WrongKind`], [`Refusal::WrongLength`],
+/// [`Refusal::AreaTooShort`], [`Refusal::NotTriangular`].
+///
+/// ```
+/// # let matrix = [1; hubqr::MATRIX_RECORD_BYTES];
+/// # let mut area = [0; hubqr::AREA_WORDS];
+/// # let mut result = [0; hubqr::RESULT_RECORD_BYTES];
+/// # hubqr::whole(&matrix, &mut area, &mut result)?;
+/// let mut other = [0; hubqr::AREA_WORDS];
+/// assert_eq!(hubqr::read(&result, &mut other), Ok(hubqr::TURNS));
+/// assert_eq!(other, area);
+/// # Ok::<(), hubqr::Refusal>(())
+/// ```
+pub fn read(record: &[u8], area: &mut [i32]) -> Result<u32, Refusal> {
+    let mut turn = 0;
+    // SAFETY: as said at the top of this file.
+    let number = unsafe {
+        ffi::hubqr_read(
+            record.as_ptr(),
+            record.len(),
+            area.as_mut_ptr(),
+            area.len(),
+            &mut turn,
+        )
+    };
+    accepted(number).map(|()| turn)
+}
+
+/// Does [`load`], all turns and [`fetch`] in one call. R and Q are left in the area as well.
+///
+/// Refuses, in this order, with [`Refusal::WrongKind`], [`Refusal::WrongLength`],
+/// [`Refusal::AreaTooShort`], [`Refusal::BufferTooShort`], [`Refusal::AllZero`].
+///
+/// ```
+/// let mut area = [0; hubqr::AREA_WORDS];
+/// let mut result = [0; hubqr::RESULT_RECORD_BYTES];
+/// let record = [1; hubqr::MATRIX_RECORD_BYTES]; // kind byte 1, each part 257
+/// let answer = hubqr::whole(&record, &mut area, &mut result)?;
+/// assert_eq!((answer.heard, answer.clamps), (0xff, 0));
+/// # Ok::<(), hubqr::Refusal>(())
+/// ```
+pub fn whole(record: &[u8], area: &mut [i32], buffer: &mut [u8]) -> Result<Factored, Refusal> {
+    let (mut heard, mut clamps) = (0, 0);
+    // SAFETY: as said at the top of this file.
+    let number = unsafe {
+        ffi::hubqr_whole(
+            record.as_ptr(),
+            record.len(),
+            area.as_mut_ptr(),
+            area.len(),
+            buffer.as_mut_ptr(),
+            buffer.len(),
+            &mut heard,
+            &mut clamps,
+        )
+    };
+    accepted(number).map(|()| Factored { heard, clamps })
+}
+
+/// The outcome that a returned number stands for. The archive is proved to return 0 to 8 only, so
+/// another number means that it is not the archive these declarations were written for: nothing it
+/// left in the lent memory could be trusted.
+fn accepted(number: u8) -> Result<(), Refusal> {
+    if number == 0 {
+        return Ok(());
+    }
+    match Refusal::try_from(number) {
+        Ok(refusal) => Err(refusal),
+        Err(unknown) => panic!("libhubqr.a does not fit this crate: {unknown}"),
+    }
+}
+
+#[cfg(test)]
+mod tests {
+    use super::*;
+
+    #[test]
+    fn returned_numbers_become_outcomes() {
+        assert_eq!(accepted(0), Ok(()));
+        for refusal in Refusal::ALL {
+            assert_eq!(accepted(refusal.number()), Err(refusal));
+        }
+    }
+
+    #[test]
+    #[should_panic(expected = "libhubqr.a does not fit this crate: 9 is no refusal number")]
+    fn an_unknown_number_panics() {
+        let _ = accepted(9);
+    }
+}

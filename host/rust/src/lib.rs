@@ -1,0 +1,86 @@
+//! QR factorization of the 8 by 8 complex matrix that a radio hub's eight antennas heard, by Givens
+//! rotations with CORDIC steps in fixed point. These are safe calls of `libhubqr.a`; the crate has
+//! no dependencies, no state and needs no `std`.
+//!
+//! A **matrix record** has 257 bytes: the kind byte 1, then 64 elements row by row, each a 16-bit
+//! real part and a 16-bit imaginary part, high byte first. They are Q1.15: the whole number a
+//! stands for a / 32768. Column k belongs to antenna k.
+//!
+//! The **area** has 512 words of 32 bits, 16 rows of 32 columns, in which the matrix is worked as a
+//! real one of 16 by 16. Once all 120 turns (rotations) are made, word (i, j) of R is
+//! `area[32 * i + j]` with [`R_ONE`] for one, and word (i, j) of Q is `area[32 * j + 16 + i]` with
+//! [`Q_ONE`] for one. R is upper triangular, its first fifteen diagonal words are not negative, and
+//! Q times R is 2^43 times the 16-bit input, within 2^44.
+//!
+//! The **turn number** says how many turns have been made. The caller keeps it beside the area and
+//! hands it to the next call; a number that does not belong to the area is not noticed.
+//!
+//! A **result record** has 2,049 bytes: the kind byte 2, then R row by row, then Q transposed.
+//!
+//! Areas and buffers may be longer than needed: what lies behind is not touched. A refused call
+//! changes nothing that it was lent.
+//!
+//! # In one call
+//!
+//! ```
+//! let mut record = [0; hubqr::MATRIX_RECORD_BYTES];
+//! record[0] = hubqr::KIND_MATRIX;
+//! record[1..3].copy_from_slice(&16384_i16.to_be_bytes()); // element (0, 0) is one half
+//!
+//! let mut area = [0; hubqr::AREA_WORDS];
+//! let mut result = [0; hubqr::RESULT_RECORD_BYTES];
+//! let answer = hubqr::whole(&record, &mut area, &mut result)?;
+//! assert_eq!(answer.heard, 0b0000_0001); // antenna 0 and no other
+//! assert_eq!(result[0], hubqr::KIND_RESULT);
+//!
+//! let half = f64::from(area[0]) / f64::from(hubqr::R_ONE);
+//! assert!((half - 0.5).abs() < 0.00001);
+//! # Ok::<(), hubqr::Refusal>(())
+//! ```
+//!
+//! # In instalments
+//!
+//! ```
+//! # let mut record = [1; hubqr::MATRIX_RECORD_BYTES];
+//! let mut area = [0; hubqr::AREA_WORDS];
+//! let mut turn = hubqr::load(&record, &mut area)?.turn;
+//! while turn < hubqr::TURNS {
+//!     turn = hubqr::run(turn, 7, &mut area)?.next;
+//!     // other work goes here
+//! }
+//! let mut result = [0; hubqr::RESULT_RECORD_BYTES];
+//! hubqr::fetch(turn, &area, &mut result)?;
+//! # Ok::<(), hubqr::Refusal>(())
+//! ```
+#![no_std]
+#![warn(missing_docs)]
+
+mod calls;
+pub mod ffi;
+mod refusal;
+
+pub use calls::{fetch, load, read, run, whole, Factored, Loaded, Progress};
+pub use refusal::{Refusal, UnknownNumber};
+
+/// Bytes of a matrix record.
+pub const MATRIX_RECORD_BYTES: usize = 257;
+/// Bytes of a result record.
+pub const RESULT_RECORD_BYTES: usize = 2049;
+/// Bytes of a refusal record, which the program `qr` writes.
+pub const REFUSAL_RECORD_BYTES: usize = 2;
+/// Words of the area that the calls work on.
+pub const AREA_WORDS: usize = 512;
+/// Turns that make R and Q of a loaded matrix.
+pub const TURNS: u32 = 120;
+
+/// First byte of a matrix record.
+pub const KIND_MATRIX: u8 = 1;
+/// First byte of a result record.
+pub const KIND_RESULT: u8 = 2;
+/// First byte of a refusal record.
+pub const KIND_REFUSAL: u8 = 3;
+
+/// What stands for one in the words of R, so that one step of the 16-bit input is 2^13.
+pub const R_ONE: i32 = 1 << 28;
+/// What stands for one in the words of Q.
+pub const Q_ONE: i32 = 1 << 30;

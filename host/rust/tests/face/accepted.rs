@@ -1,0 +1,124 @@
+//! Accepted calls: replies, and that instalments, threads and a detour over records make no difference.
+use crate::lent::{matrix, mixed_matrix, Lent};
+use hubqr::{Loaded, Progress, AREA_WORDS, Q_ONE, RESULT_RECORD_BYTES, R_ONE, TURNS};
+
+/// Load, Runs of one allowance, Fetch.
+fn in_instalments(record: &[u8], allowance: u16) -> Lent {
+    let mut lent = Lent::new();
+    let mut turn = hubqr::load(record, &mut lent.area).unwrap().turn;
+    while turn < TURNS {
+        let progress = hubqr::run(turn, allowance, &mut lent.area).unwrap();
+        assert_eq!(progress.next, turn + progress.made);
+        assert_eq!(progress.made, u32::from(allowance).min(TURNS - turn));
+        assert_eq!(progress.clamps, 0);
+        turn = progress.next;
+    }
+    hubqr::fetch(turn, &lent.area, &mut lent.buffer).unwrap();
+    lent
+}
+
+#[test]
+fn load_answers_turn_0_and_who_was_heard() {
+    for column in 0..8 {
+        let record = matrix(|i, j| (i16::from(i == 3 && j == column), 0));
+        let mut lent = Lent::new();
+        let heard = 1 << column;
+        let loaded = hubqr::load(&record, &mut lent.area);
+        assert_eq!(loaded, Ok(Loaded { turn: 0, heard }));
+        assert!(lent.tails_untouched());
+    }
+}
+
+#[test]
+fn load_scales_and_places_the_parts() {
+    let record = matrix(|i, j| {
+        if (i, j) == (2, 5) {
+            (1, -32768)
+        } else {
+            (0, 0)
+        }
+    });
+    let mut area = [7; AREA_WORDS];
+    hubqr::load(&record, &mut area).unwrap();
+    let mut expected = [0; AREA_WORDS];
+    for diagonal in 0..16 {
+        expected[33 * diagonal + 16] = Q_ONE;
+    }
+    expected[32 * 2 + 5] = R_ONE / 32768;
+    expected[32 * 10 + 13] = R_ONE / 32768;
+    expected[32 * 10 + 5] = -R_ONE;
+    expected[32 * 2 + 13] = R_ONE;
+    assert_eq!(area, expected);
+}
+
+#[test]
+fn instalments_make_no_difference() {
+    let record = mixed_matrix();
+    let mut whole = Lent::new();
+    let answer = hubqr::whole(&record, &mut whole.area, &mut whole.buffer).unwrap();
+    assert_eq!((answer.heard, answer.clamps), (0xff, 0));
+    assert!(whole.tails_untouched());
+    for allowance in [1, 7, 60, 119, 120, 121, u16::MAX] {
+        assert_eq!(in_instalments(&record, allowance), whole, "{allowance}");
+    }
+}
+
+#[test]
+fn a_run_may_make_no_turn() {
+    let mut lent = in_instalments(&mixed_matrix(), 120);
+    let before = lent.clone();
+    for (turn, allowance) in [(120, u16::MAX), (120, 0), (60, 0)] {
+        let progress = hubqr::run(turn, allowance, &mut lent.area);
+        let none = Progress {
+            next: turn,
+            made: 0,
+            clamps: 0,
+        };
+        assert_eq!(progress, Ok(none));
+        assert_eq!(lent, before);
+    }
+}
+
+#[test]
+fn clamps_are_counted() {
+    let mut area = [i32::MAX; AREA_WORDS];
+    let progress = hubqr::run(119, 1, &mut area).unwrap();
+    assert_eq!(progress.clamps, 18);
+}
+
+#[test]
+fn a_result_record_reads_back_to_itself() {
+    let worked = in_instalments(&mixed_matrix(), 120);
+    let mut lent = Lent::new();
+    let record = &worked.buffer[..RESULT_RECORD_BYTES];
+    assert_eq!(hubqr::read(record, &mut lent.area), Ok(TURNS));
+    hubqr::fetch(TURNS, &lent.area, &mut lent.buffer).unwrap();
+    assert_eq!(lent, worked);
+}
+
+#[test]
+fn q_times_r_is_the_input_at_its_scale() {
+    let record = mixed_matrix();
+    let mut area = [0; AREA_WORDS];
+    hubqr::load(&record, &mut area).unwrap();
+    let loaded = area;
+    hubqr::run(0, 120, &mut area).unwrap();
+    for (i, j) in (0..256).map(|place| (place / 16, place % 16)) {
+        let product = |k: usize| i128::from(area[32 * k + 16 + i]) * i128::from(area[32 * k + j]);
+        let sum: i128 = (0..16).map(product).sum();
+        let input = i128::from(loaded[32 * i + j]) << 30;
+        assert!((sum - input).abs() <= 1 << 44, "({i}, {j})");
+    }
+}
+
+#[test]
+fn threads_work_on_areas_of_their_own() {
+    let record = mixed_matrix();
+    let expected = in_instalments(&record, 120);
+    std::thread::scope(|scope| {
+        for allowance in 1..=4 {
+            let (record, expected) = (&record, &expected);
+            scope.spawn(move || assert_eq!(in_instalments(record, allowance), *expected));
+        }
+    });
+}

@@ -1,0 +1,48 @@
+//! What the tests share: records, and an area and a buffer with something behind what the calls use.
+use hubqr::{AREA_WORDS, KIND_MATRIX, MATRIX_RECORD_BYTES, RESULT_RECORD_BYTES};
+
+/// Lent memory, longer than needed and filled with what no call writes.
+#[derive(Clone, Debug, PartialEq)]
+pub struct Lent {
+    pub area: Vec<i32>,
+    pub buffer: Vec<u8>,
+}
+
+impl Lent {
+    pub fn new() -> Lent {
+        Lent {
+            area: vec![0x5a5a5a5a; AREA_WORDS + 3],
+            buffer: vec![0xa5; RESULT_RECORD_BYTES + 3],
+        }
+    }
+
+    /// Whether the words and bytes behind the used ones are as in a new one.
+    pub fn tails_untouched(&self) -> bool {
+        let new = Lent::new();
+        self.area[AREA_WORDS..] == new.area[AREA_WORDS..]
+            && self.buffer[RESULT_RECORD_BYTES..] == new.buffer[RESULT_RECORD_BYTES..]
+    }
+}
+
+/// A matrix record whose element (row, column) is given as a pair of its parts.
+pub fn matrix(element: impl Fn(usize, usize) -> (i16, i16)) -> Vec<u8> {
+    let mut record = vec![KIND_MATRIX];
+    for place in 0..64 {
+        let (real, imaginary) = element(place / 8, place % 8);
+        record.extend(real.to_be_bytes());
+        record.extend(imaginary.to_be_bytes());
+    }
+    assert_eq!(record.len(), MATRIX_RECORD_BYTES);
+    record
+}
+
+/// A matrix without pattern, both ends of the 16-bit range among its parts.
+pub fn mixed_matrix() -> Vec<u8> {
+    matrix(|row, column| match (row, column) {
+        (0, 0) => (i16::MIN, i16::MAX),
+        _ => {
+            let seed = (8 * row as u32 + column as u32).wrapping_mul(2654435761);
+            ((seed >> 16) as i16, seed as i16)
+        }
+    })
+}

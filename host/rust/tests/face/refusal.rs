@@ -1,0 +1,43 @@
+//! The refusal as a value: numbers, words, errors.
+use hubqr::{Refusal, UnknownNumber};
+use std::collections::HashSet;
+use std::error::Error;
+
+#[test]
+fn numbers_go_both_ways() {
+    for (place, refusal) in Refusal::ALL.into_iter().enumerate() {
+        assert_eq!(usize::from(refusal.number()), place + 1);
+        assert_eq!(Refusal::try_from(refusal.number()), Ok(refusal));
+    }
+    for number in [0, 9, 255] {
+        assert_eq!(Refusal::try_from(number), Err(UnknownNumber(number)));
+    }
+}
+
+#[test]
+fn each_has_words_of_its_own() {
+    let words: HashSet<String> = Refusal::ALL.iter().map(Refusal::to_string).collect();
+    assert_eq!(words.len(), 8);
+    assert_eq!(
+        Refusal::AllZero.to_string(),
+        "all 64 elements of the matrix are zero"
+    );
+    assert_eq!(
+        UnknownNumber(9).to_string(),
+        "9 is no refusal number: they are 1 to 8"
+    );
+}
+
+#[test]
+fn both_are_errors_that_a_question_mark_takes() {
+    fn refuse() -> Result<(), Box<dyn Error>> {
+        hubqr::load(&[], &mut [])?;
+        Ok(())
+    }
+    fn name() -> Result<Refusal, Box<dyn Error>> {
+        Ok(Refusal::try_from(0)?)
+    }
+    let refusal = refuse().unwrap_err();
+    assert_eq!(refusal.downcast_ref(), Some(&Refusal::WrongKind));
+    assert_eq!(name().unwrap_err().downcast_ref(), Some(&UnknownNumber(0)));
+}

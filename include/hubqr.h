@@ -1,0 +1,144 @@
+/*
+ * hubqr.h - QR factorization of the 8 by 8 complex matrix that a radio hub's eight antennas heard, by Givens rotations with
+ * CORDIC steps in fixed point. Link with libhubqr.a; nothing else is needed.
+ *
+ * Use
+ *   In one call:     hubqr_whole.
+ *   In instalments:  hubqr_load, then hubqr_run until the turn number is HUBQR_TURNS, then hubqr_fetch.
+ *   Later on:        hubqr_read brings a result record back into an area.
+ *
+ * Records (numbers are two's complement, high byte first)
+ *   Matrix record, 257 bytes:    HUBQR_KIND_MATRIX, then 64 elements row by row, each a 16-bit real part and a 16-bit imaginary
+ *                                part. They are Q1.15: the whole number a stands for a / 32768. Column k belongs to antenna k.
+ *   Result record, 2,049 bytes:  HUBQR_KIND_RESULT, then R (256 words of 32 bits, row by row), then Q transposed (256 words).
+ *   Refusal record, 2 bytes:     HUBQR_KIND_REFUSAL, then the refusal number. The program `qr` writes it; no call here does.
+ *
+ * The area
+ *   512 words of 32 bits, 16 rows of 32 columns. The complex matrix is worked as a real one of 16 by 16: real parts upper left
+ *   and lower right, imaginary parts lower left, their negatives upper right. Once all turns are made, for i and j from 0 to 15:
+ *     R(i, j) is area[32 * i + j];        one in Q1.15 is HUBQR_R_ONE, so one step of the 16-bit input is 2^13
+ *     Q(i, j) is area[32 * j + 16 + i];   one is HUBQR_Q_ONE
+ *   R is upper triangular, its first fifteen diagonal words are not negative, and Q times R is 2^43 times the input, within 2^44,
+ *   which is two steps of the 16-bit input.
+ *
+ * Words used below
+ *   turn number  How many of the 120 turns (rotations) have been made: 0 after hubqr_load, 120 when R and Q are finished. The
+ *                caller keeps it beside the area and hands it to the next call; the area does not hold it. Another number than
+ *                the one last answered for this area is not noticed and makes the words worthless.
+ *   allowance    The most turns that one hubqr_run may make.
+ *   clamps       How many words were cut to the 32-bit range. Always 0 for an area that hubqr_load filled and that was worked in
+ *                step; not 0 only for words that came from elsewhere.
+ *   heard byte   Bit k (value 2^k) is set when column k of the complex matrix has an element other than zero.
+ *
+ * Ownership and threads
+ *   The caller owns every record, area, buffer and reply, before, during and after a call. The library keeps no pointer, has no
+ *   state of its own and allocates nothing. All calls are reentrant: threads may call at the same time on different areas,
+ *   buffers and replies, and may share a record, since records are only read. While a call lasts nobody else may write to what
+ *   it was lent.
+ *
+ * Aliasing
+ *   Nothing that is lent to a call may overlap anything else that is lent to it, replies included.
+ *
+ * Null
+ *   `record`, `area` and `buffer` may be null exactly when their length is 0; nothing is then read or written through them and
+ *   the call is refused. The reply pointers (`turn`, `heard`, `next`, `made`, `clamps`) must never be null.
+ *
+ * Lengths
+ *   Lengths are true lengths: bytes for records and buffers, words for areas. An area may be longer than HUBQR_AREA_WORDS and a
+ *   buffer longer than HUBQR_RESULT_RECORD_BYTES; what lies behind those sizes is neither read nor written. A record has to have
+ *   exactly its length.
+ *
+ * Refusals
+ *   Each call tests what it is handed, in the order given with it. It returns the number of the first test that fails, or
+ *   HUBQR_ACCEPTED. A refused call changes no word of the area and no byte of the buffer, and answers 0 in every reply, except
+ *   that hubqr_run answers in `next` the turn number it was handed.
+ */
+#ifndef HUBQR_H
+#define HUBQR_H
+
+#include <stddef.h>
+#include <stdint.h>
+
+/* Sizes of the records in bytes, of the area in words, and the number of turns. */
+#define HUBQR_MATRIX_RECORD_BYTES 257
+#define HUBQR_RESULT_RECORD_BYTES 2049
+#define HUBQR_REFUSAL_RECORD_BYTES 2
+#define HUBQR_AREA_WORDS 512
+#define HUBQR_TURNS 120
+
+/* The area's shape. */
+#define HUBQR_AREA_ROWS 16
+#define HUBQR_AREA_COLUMNS 32
+
+/* The first byte of a record. */
+#define HUBQR_KIND_MATRIX 0x01
+#define HUBQR_KIND_RESULT 0x02
+#define HUBQR_KIND_REFUSAL 0x03
+
+/* What stands for one in the words of R (2^28) and of Q (2^30). */
+#define HUBQR_R_ONE INT32_C(268435456)
+#define HUBQR_Q_ONE INT32_C(1073741824)
+
+#ifdef __cplusplus
+extern "C" {
+#endif
+
+/* What a call returns: 0, or the number of the first test that failed. */
+enum hubqr_refusal {
+    HUBQR_ACCEPTED = 0,         /* no test failed, the call has done its work */
+    HUBQR_WRONG_KIND = 1,       /* the record has no byte, or its kind byte is not the one that the call takes */
+    HUBQR_WRONG_LENGTH = 2,     /* the record's length is not 257 bytes (a matrix) or 2,049 bytes (a result) */
+    HUBQR_AREA_TOO_SHORT = 3,   /* the area has fewer than 512 words */
+    HUBQR_ALL_ZERO = 4,         /* all 64 elements of the matrix are zero: no antenna heard anything */
+    HUBQR_NO_SUCH_TURN = 5,     /* the turn number is above 120 */
+    HUBQR_UNFINISHED = 6,       /* the turn number is under 120, so there is no result to fetch yet */
+    HUBQR_BUFFER_TOO_SHORT = 7, /* the buffer has fewer than 2,049 bytes */
+    HUBQR_NOT_TRIANGULAR = 8    /* a word of R under the diagonal is not 0, or one of its first 15 diagonal words is negative */
+};
+
+/*
+ * Load: fills the area's 512 words from a matrix record.
+ * Tests, in this order: 1, 2, 3, 4.
+ * Accepted: *turn is 0, *heard is the heard byte.
+ * Refused:  *turn and *heard are 0.
+ */
+uint8_t hubqr_load(const uint8_t *record, size_t record_len, int32_t *area, size_t area_len, uint32_t *turn, uint8_t *heard);
+
+/*
+ * Run: makes the smaller of `allowance` and 120 - `turn` turns, from turn number `turn` on. Allowance 0 and turn number 120 are
+ * no errors: no turn is made. Many Runs make of the area what one Run with the sum of their allowances makes of it.
+ * Tests, in this order: 3, 5.
+ * Accepted: *next is the turn number to hand to the next call, *made the turns made and *clamps the clamps counted in this call.
+ * Refused:  *next is `turn`, *made and *clamps are 0.
+ */
+uint8_t hubqr_run(uint32_t turn, uint16_t allowance, int32_t *area, size_t area_len, uint32_t *next, uint32_t *made,
+                  uint32_t *clamps);
+
+/*
+ * Fetch: writes the result record into the first 2,049 bytes of the buffer. The area is only read.
+ * Tests, in this order: 3, 5, 6, 7, 8. Test 8 never fails on an area that was loaded and worked in step.
+ */
+uint8_t hubqr_fetch(uint32_t turn, const int32_t *area, size_t area_len, uint8_t *buffer, size_t buffer_len);
+
+/*
+ * Read: fills the area's 512 words from a result record. A Fetch from that area writes the same record again.
+ * Tests, in this order: 1, 2, 3, 8.
+ * Accepted: *turn is 120.
+ * Refused:  *turn is 0.
+ */
+uint8_t hubqr_read(const uint8_t *record, size_t record_len, int32_t *area, size_t area_len, uint32_t *turn);
+
+/*
+ * Whole: Load, all 120 turns and Fetch in one call. R and Q are left in the area as well.
+ * Tests, in this order: 1, 2, 3, 7, 4.
+ * Accepted: *heard is the heard byte, *clamps the clamps counted, which is 0.
+ * Refused:  *heard and *clamps are 0.
+ */
+uint8_t hubqr_whole(const uint8_t *record, size_t record_len, int32_t *area, size_t area_len, uint8_t *buffer, size_t buffer_len,
+                    uint8_t *heard, uint32_t *clamps);
+
+#ifdef __cplusplus
+}
+#endif
+
+#endif

@@ -1,0 +1,263 @@
+//! The five calls, each with its tests in the order of the specification.
+//!
+//! A refused call changes nothing: every call makes all its tests before it writes.
+
+use std::sync::LazyLock;
+
+use crate::area::{WorkArea, AREA_WORDS};
+use crate::matrix::Matrix;
+use crate::records::{parse_matrix, parse_result, write_result, RESULT_RECORD};
+use crate::replies::{FetchReply, LoadReply, ReadReply, Refusal, RunReply, WholeReply};
+use crate::rotation::rotate;
+use crate::schedule::{self, Turn, TURNS};
+
+static SCHEDULE: LazyLock<Vec<Turn>> = LazyLock::new(schedule::turns);
+
+/// Load: fills the area from a matrix record.
+pub fn load(record: &[u8], area: &mut [i32]) -> LoadReply {
+    accept_load(record, area).unwrap_or_else(LoadReply::from)
+}
+
+/// Run: makes the turns that remain, at most `allowance` of them.
+pub fn run(turn: u32, allowance: u16, area: &mut [i32]) -> RunReply {
+    accept_run(turn, allowance, area).unwrap_or_else(|refusal| RunReply::refused(refusal, turn))
+}
+
+/// Fetch: writes the result record of a worked area to the first 2,049 bytes of the buffer.
+pub fn fetch(turn: u32, area: &[i32], buffer: &mut [u8]) -> FetchReply {
+    accept_fetch(turn, area, buffer).unwrap_or_else(FetchReply::from)
+}
+
+/// Read: fills the area from a result record.
+pub fn read(record: &[u8], area: &mut [i32]) -> ReadReply {
+    accept_read(record, area).unwrap_or_else(ReadReply::from)
+}
+
+/// Whole: Load, all turns and Fetch in one call.
+pub fn whole(record: &[u8], area: &mut [i32], buffer: &mut [u8]) -> WholeReply {
+    accept_whole(record, area, buffer).unwrap_or_else(WholeReply::from)
+}
+
+fn accept_load(record: &[u8], area: &mut [i32]) -> Result<LoadReply, Refusal> {
+    let matrix = parse_matrix(record)?;
+    let area = lent_area(area)?;
+    test_heard(&matrix)?;
+    *area = WorkArea::loaded(&matrix.to_real()).to_words();
+    Ok(LoadReply {
+        number: 0,
+        turn: 0,
+        heard: matrix.heard(),
+    })
+}
+
+fn accept_run(turn: u32, allowance: u16, area: &mut [i32]) -> Result<RunReply, Refusal> {
+    let area = lent_area(area)?;
+    test_turn(turn)?;
+    let made = u32::from(allowance).min(TURNS - turn);
+    let mut work = WorkArea::from_words(area);
+    let clamps = make_turns(&mut work, turn, made);
+    *area = work.to_words();
+    Ok(RunReply {
+        number: 0,
+        next: turn + made,
+        made,
+        clamps,
+    })
+}
+
+fn accept_fetch(turn: u32, area: &[i32], buffer: &mut [u8]) -> Result<FetchReply, Refusal> {
+    let words = area.first_chunk().ok_or(Refusal::Area)?;
+    test_turn(turn)?;
+    if turn < TURNS {
+        return Err(Refusal::Unfinished);
+    }
+    let buffer = lent_buffer(buffer)?;
+    let work = WorkArea::from_words(words);
+    test_triangle(&work)?;
+    *buffer = write_result(&work);
+    Ok(FetchReply { number: 0 })
+}
+
+fn accept_read(record: &[u8], area: &mut [i32]) -> Result<ReadReply, Refusal> {
+    let work = parse_result(record)?;
+    let area = lent_area(area)?;
+    test_triangle(&work)?;
+    *area = work.to_words();
+    Ok(ReadReply {
+        number: 0,
+        turn: TURNS,
+    })
+}
+
+fn accept_whole(record: &[u8], area: &mut [i32], buffer: &mut [u8]) -> Result<WholeReply, Refusal> {
+    let matrix = parse_matrix(record)?;
+    let area = lent_area(area)?;
+    let buffer = lent_buffer(buffer)?;
+    test_heard(&matrix)?;
+    let mut work = WorkArea::loaded(&matrix.to_real());
+    let clamps = make_turns(&mut work, 0, TURNS);
+    *area = work.to_words();
+    *buffer = write_result(&work);
+    Ok(WholeReply {
+        number: 0,
+        heard: matrix.heard(),
+        clamps,
+    })
+}
+
+/// Makes `count` turns from turn number `first` on, and answers their clamps.
+fn make_turns(work: &mut WorkArea, first: u32, count: u32) -> u32 {
+    let turns = SCHEDULE.iter().skip(first as usize).take(count as usize);
+    turns.map(|&turn| rotate(work, turn)).sum()
+}
+
+/// Test 3, and the words that a call may touch.
+fn lent_area(area: &mut [i32]) -> Result<&mut [i32; AREA_WORDS], Refusal> {
+    area.first_chunk_mut().ok_or(Refusal::Area)
+}
+
+/// Test 4.
+fn test_heard(matrix: &Matrix) -> Result<(), Refusal> {
+    if matrix.is_silent() {
+        Err(Refusal::Silent)
+    } else {
+        Ok(())
+    }
+}
+
+/// Test 5.
+fn test_turn(turn: u32) -> Result<(), Refusal> {
+    if turn > TURNS {
+        Err(Refusal::Turn)
+    } else {
+        Ok(())
+    }
+}
+
+/// Test 7, and the bytes that a call may touch.
+fn lent_buffer(buffer: &mut [u8]) -> Result<&mut [u8; RESULT_RECORD], Refusal> {
+    buffer.first_chunk_mut().ok_or(Refusal::Buffer)
+}
+
+/// Test 8.
+fn test_triangle(work: &WorkArea) -> Result<(), Refusal> {
+    if work.is_upper_triangular() && work.has_nonnegative_diagonal() {
+        Ok(())
+    } else {
+        Err(Refusal::Triangle)
+    }
+}
+
+#[cfg(test)]
+mod tests {
+    use super::*;
+
+    fn matrix_record(fill: u8) -> [u8; 257] {
+        let mut record = [fill; 257];
+        record[0] = 1;
+        record
+    }
+
+    fn result_record(first_word: i32) -> [u8; 2049] {
+        let mut record = [0; 2049];
+        record[0] = 2;
+        record[1..5].copy_from_slice(&first_word.to_be_bytes());
+        record
+    }
+
+    #[test]
+    fn load_makes_its_tests_in_order() {
+        let (short, full) = (&mut [0; 511][..], &mut [0; 512][..]);
+        assert_eq!(load(&[], short).number, 1);
+        assert_eq!(load(&[2; 256], short).number, 1);
+        assert_eq!(load(&[1; 256], short).number, 2);
+        assert_eq!(load(&matrix_record(0), short).number, 3);
+        assert_eq!(load(&matrix_record(0), full).number, 4);
+        let accepted = LoadReply {
+            number: 0,
+            turn: 0,
+            heard: 255,
+        };
+        assert_eq!(load(&matrix_record(9), full), accepted);
+    }
+
+    #[test]
+    fn run_makes_its_tests_in_order() {
+        let (short, full) = (&mut [0; 511][..], &mut [0; 512][..]);
+        assert_eq!(run(121, 7, short), RunReply::refused(Refusal::Area, 121));
+        assert_eq!(run(121, 7, full), RunReply::refused(Refusal::Turn, 121));
+        let at_the_end = RunReply {
+            next: 120,
+            ..RunReply::default()
+        };
+        assert_eq!(run(120, 7, full), at_the_end);
+    }
+
+    #[test]
+    fn run_makes_the_smaller_of_allowance_and_rest() {
+        let mut area = [0; 512];
+        for (turn, allowance, made) in [
+            (0, 0, 0),
+            (0, 119, 119),
+            (0, 120, 120),
+            (0, 121, 120),
+            (119, 65535, 1),
+        ] {
+            let reply = run(turn, allowance, &mut area);
+            assert_eq!((reply.made, reply.next), (made, turn + made));
+        }
+    }
+
+    #[test]
+    fn fetch_makes_its_tests_in_order() {
+        let mut damaged = [0; 512];
+        damaged[0] = -1;
+        let buffer = &mut [0; 2049][..];
+        assert_eq!(fetch(121, &damaged[..511], &mut buffer[..5]).number, 3);
+        assert_eq!(fetch(121, &damaged, &mut buffer[..5]).number, 5);
+        assert_eq!(fetch(119, &damaged, &mut buffer[..5]).number, 6);
+        assert_eq!(fetch(120, &damaged, &mut buffer[..2048]).number, 7);
+        assert_eq!(fetch(120, &damaged, buffer).number, 8);
+        assert_eq!(fetch(120, &[0; 512], buffer).number, 0);
+    }
+
+    #[test]
+    fn read_makes_its_tests_in_order() {
+        let (short, full) = (&mut [0; 511][..], &mut [0; 512][..]);
+        assert_eq!(read(&[], short).number, 1);
+        assert_eq!(read(&[1; 2049], short).number, 1);
+        assert_eq!(read(&[2; 2048], short).number, 2);
+        assert_eq!(read(&result_record(-1), short).number, 3);
+        assert_eq!(read(&result_record(-1), full).number, 8);
+        let accepted = ReadReply {
+            number: 0,
+            turn: 120,
+        };
+        assert_eq!(read(&result_record(0), full), accepted);
+    }
+
+    #[test]
+    fn whole_makes_its_tests_in_order() {
+        let (short, full) = (&mut [0; 511][..], &mut [0; 512][..]);
+        let buffer = &mut [0; 2049][..];
+        assert_eq!(whole(&[], short, &mut []).number, 1);
+        assert_eq!(whole(&[1], short, &mut []).number, 2);
+        assert_eq!(whole(&matrix_record(0), short, &mut []).number, 3);
+        assert_eq!(whole(&matrix_record(0), full, &mut []).number, 7);
+        assert_eq!(whole(&matrix_record(0), full, buffer).number, 4);
+        let accepted = WholeReply {
+            number: 0,
+            heard: 255,
+            clamps: 0,
+        };
+        assert_eq!(whole(&matrix_record(1), full, buffer), accepted);
+    }
+
+    #[test]
+    fn calls_leave_what_lies_beyond_untouched() {
+        let (mut area, mut buffer) = ([-7; 520], [0xEE; 2060]);
+        assert_eq!(whole(&matrix_record(3), &mut area, &mut buffer).number, 0);
+        assert_eq!(area[512..], [-7; 8]);
+        assert_eq!(buffer[2049..], [0xEE; 11]);
+    }
+}

@@ -1,0 +1,114 @@
+//! The refusal numbers and the replies of the five calls.
+
+/// Why a call was refused. The discriminants are the numbers that are answered.
+#[derive(Debug, Clone, Copy, PartialEq, Eq)]
+#[repr(u8)]
+pub enum Refusal {
+    /// No byte, or a kind byte that is not the call's.
+    Kind = 1,
+    /// The record's length is wrong.
+    Length = 2,
+    /// The area has under 512 words.
+    Area = 3,
+    /// All 64 elements are zero.
+    Silent = 4,
+    /// The turn number is above 120.
+    Turn = 5,
+    /// The turn number is under 120 at Fetch.
+    Unfinished = 6,
+    /// The buffer has under 2,049 bytes.
+    Buffer = 7,
+    /// R is not upper triangular, or one of its first 15 diagonal words is negative.
+    Triangle = 8,
+}
+
+impl Refusal {
+    pub fn number(self) -> u8 {
+        self as u8
+    }
+}
+
+/// Load's reply. As in every reply, `number` is 0 for an accepted call and the refusal number
+/// otherwise.
+#[derive(Debug, Clone, Copy, Default, PartialEq, Eq)]
+pub struct LoadReply {
+    pub number: u8,
+    pub turn: u32,
+    pub heard: u8,
+}
+
+/// Run's reply. A refused Run gives back the turn number as it was given.
+#[derive(Debug, Clone, Copy, Default, PartialEq, Eq)]
+pub struct RunReply {
+    pub number: u8,
+    pub next: u32,
+    pub made: u32,
+    pub clamps: u32,
+}
+
+/// Fetch's reply.
+#[derive(Debug, Clone, Copy, Default, PartialEq, Eq)]
+pub struct FetchReply {
+    pub number: u8,
+}
+
+/// Read's reply.
+#[derive(Debug, Clone, Copy, Default, PartialEq, Eq)]
+pub struct ReadReply {
+    pub number: u8,
+    pub turn: u32,
+}
+
+/// Whole's reply.
+#[derive(Debug, Clone, Copy, Default, PartialEq, Eq)]
+pub struct WholeReply {
+    pub number: u8,
+    pub heard: u8,
+    pub clamps: u32,
+}
+
+impl From<Refusal> for LoadReply {
+    fn from(refusal: Refusal) -> Self {
+        LoadReply {
+            number: refusal.number(),
+            ..LoadReply::default()
+        }
+    }
+}
+
+impl From<Refusal> for FetchReply {
+    fn from(refusal: Refusal) -> Self {
+        FetchReply {
+            number: refusal.number(),
+        }
+    }
+}
+
+impl From<Refusal> for ReadReply {
+    fn from(refusal: Refusal) -> Self {
+        ReadReply {
+            number: refusal.number(),
+            ..ReadReply::default()
+        }
+    }
+}
+
+impl From<Refusal> for WholeReply {
+    fn from(refusal: Refusal) -> Self {
+        WholeReply {
+            number: refusal.number(),
+            ..WholeReply::default()
+        }
+    }
+}
+
+impl RunReply {
+    /// The reply of a Run that was refused at a turn number.
+    pub fn refused(refusal: Refusal, turn: u32) -> Self {
+        RunReply {
+            number: refusal.number(),
+            next: turn,
+            ..RunReply::default()
+        }
+    }
+}

@@ -1,0 +1,217 @@
+//! One turn: a Givens rotation by CORDIC micro-steps.
+
+use crate::area::{WorkArea, COLUMNS};
+use crate::schedule::Turn;
+
+/// Micro-steps of a rotation.
+pub const STEPS: usize = 28;
+
+/// What takes the growth of the micro-steps back, in units of 2^-30.
+pub const GAIN: i64 = 652_032_874;
+
+/// A rotation as the leading column decides it: what every column of the turn has to do.
+struct Rotation {
+    /// Both words change sign first.
+    negate: bool,
+    /// For each micro-step 1 where the lower word is 0 or more, and -1 otherwise.
+    directions: [i64; STEPS],
+}
+
+impl Rotation {
+    /// Vectoring: finds the rotation that clears the lower word of the leading column.
+    fn clearing(upper: i32, lower: i32) -> Self {
+        let negate = upper < 0;
+        let (mut u, mut v) = signed(upper, lower, negate);
+        let mut directions = [0; STEPS];
+        for (i, direction) in directions.iter_mut().enumerate() {
+            *direction = if v >= 0 { 1 } else { -1 };
+            (u, v) = micro_step(u, v, i, *direction);
+        }
+        Rotation { negate, directions }
+    }
+
+    /// Rotates one column's words; the result has not been scaled yet.
+    fn apply(&self, upper: i32, lower: i32) -> (i64, i64) {
+        let start = signed(upper, lower, self.negate);
+        let steps = self.directions.iter().enumerate();
+        steps.fold(start, |(u, v), (i, &direction)| {
+            micro_step(u, v, i, direction)
+        })
+    }
+}
+
+/// Both words in 64 bits, negated if asked.
+fn signed(upper: i32, lower: i32, negate: bool) -> (i64, i64) {
+    let sign = if negate { -1 } else { 1 };
+    (sign * i64::from(upper), sign * i64::from(lower))
+}
+
+/// Micro-step `i`. Both shifts floor, and both see the words from before the step.
+fn micro_step(u: i64, v: i64, i: usize, direction: i64) -> (i64, i64) {
+    (u + direction * (v >> i), v - direction * (u >> i))
+}
+
+/// Multiplies by the gain and rounds: the floor of (w × gain + 2^29) / 2^30.
+fn scale(word: i64) -> i64 {
+    let product = i128::from(word) * i128::from(GAIN);
+    let rounded = (product + (1 << 29)) >> 30;
+    i64::try_from(rounded).expect("the gain is below one, so the product fits")
+}
+
+/// Clamps to 32 bits, and says whether that altered the word.
+fn saturate(word: i64) -> (i32, bool) {
+    let clamped = word.clamp(i64::from(i32::MIN), i64::from(i32::MAX));
+    (clamped as i32, clamped != word)
+}
+
+/// Makes one turn on the area and answers the clamps it counted.
+pub fn rotate(area: &mut WorkArea, turn: Turn) -> u32 {
+    let Turn {
+        column: leading,
+        upper,
+        lower,
+    } = turn;
+    let rotation = Rotation::clearing(area.word(upper, leading), area.word(lower, leading));
+    let mut clamps = 0;
+    for column in leading..COLUMNS {
+        let (u, v) = rotation.apply(area.word(upper, column), area.word(lower, column));
+        clamps += store(area, upper, column, u);
+        if column == leading {
+            // The rotation leaves a rest of a few units here; it is dropped and never counts.
+            area.set_word(lower, column, 0);
+        } else {
+            clamps += store(area, lower, column, v);
+        }
+    }
+    clamps
+}
+
+/// Scales, clamps and stores a rotated word; answers 1 for a clamp and 0 for none.
+fn store(area: &mut WorkArea, row: usize, column: usize, word: i64) -> u32 {
+    let (stored, clamped) = saturate(scale(word));
+    area.set_word(row, column, stored);
+    u32::from(clamped)
+}
+
+#[cfg(test)]
+mod tests {
+    use super::*;
+    use crate::area::AREA_WORDS;
+
+    const LAST_TURN: Turn = Turn {
+        column: 14,
+        upper: 14,
+        lower: 15,
+    };
+
+    /// Rotates an area of zeros but for the leading pair, and answers the pair and the clamps.
+    fn rotate_pair(upper: i32, lower: i32) -> (i32, i32, u32) {
+        let mut area = WorkArea::from_words(&[0; AREA_WORDS]);
+        area.set_word(14, 14, upper);
+        area.set_word(15, 14, lower);
+        let clamps = rotate(&mut area, LAST_TURN);
+        (area.word(14, 14), area.word(15, 14), clamps)
+    }
+
+    #[test]
+    fn marked_case_m9() {
+        assert_eq!([2, -1, 3].map(scale), [1, -1, 2]);
+    }
+
+    #[test]
+    fn marked_cases_m10_to_m12() {
+        assert_eq!(rotate_pair(1, 0), (17, 0, 0));
+        assert_eq!(rotate_pair(0, 1), (1, 0, 0));
+        assert_eq!(rotate_pair(-1, 0), (17, 0, 0));
+    }
+
+    #[test]
+    fn a_shift_floors() {
+        assert_eq!(micro_step(0, -1, 5, -1), (1, -1));
+        assert_eq!(micro_step(-1, 0, 5, 1), (-1, 1));
+    }
+
+    #[test]
+    fn saturation_counts_only_altered_words() {
+        let (min, max) = (i64::from(i32::MIN), i64::from(i32::MAX));
+        assert_eq!(saturate(max), (i32::MAX, false));
+        assert_eq!(saturate(max + 1), (i32::MAX, true));
+        assert_eq!(saturate(min), (i32::MIN, false));
+        assert_eq!(saturate(min - 1), (i32::MIN, true));
+    }
+
+    #[test]
+    fn the_largest_leading_pair_counts_one_clamp() {
+        assert_eq!(rotate_pair(i32::MIN, i32::MIN), (i32::MAX, 0, 1));
+    }
+
+    #[test]
+    fn a_turn_touches_only_its_rows_and_columns() {
+        let words: [i32; AREA_WORDS] = std::array::from_fn(|k| 1_000_000 + 977 * k as i32);
+        let before = WorkArea::from_words(&words);
+        let mut after = before.clone();
+        rotate(
+            &mut after,
+            Turn {
+                column: 3,
+                upper: 5,
+                lower: 9,
+            },
+        );
+        for row in 0..16 {
+            for column in 0..COLUMNS {
+                let turned = (row == 5 || row == 9) && column >= 3;
+                let same = before.word(row, column) == after.word(row, column);
+                assert_eq!(same, !turned, "row {row}, column {column}");
+            }
+        }
+    }
+
+    /// A natural number of any size: limbs of 64 bits, the lowest first.
+    struct Natural(Vec<u64>);
+
+    impl Natural {
+        fn product(factors: impl Iterator<Item = u64>) -> Self {
+            let mut limbs = vec![1];
+            for factor in factors {
+                let mut carry = 0;
+                for limb in &mut limbs {
+                    let sum = u128::from(*limb) * u128::from(factor) + carry;
+                    *limb = sum as u64;
+                    carry = sum >> 64;
+                }
+                limbs.push(carry as u64);
+            }
+            Natural(limbs)
+        }
+
+        fn is_at_most_power_of_two(&self, exponent: usize) -> bool {
+            let ones: u32 = self.0.iter().map(|limb| limb.count_ones()).sum();
+            let top = self.0.iter().rposition(|&limb| limb != 0);
+            let length = top.map_or(0, |k| 64 * k + self.0[k].ilog2() as usize + 1);
+            length <= exponent || (length == exponent + 1 && ones == 1)
+        }
+    }
+
+    /// With both sides multiplied by the product of 4^i, which is 2^756, the rule for the gain is
+    /// one about whole numbers: gain^2 × the product of (4^i + 1) is at most 2^(60 + 756).
+    #[test]
+    fn the_gain_is_the_largest_that_the_rule_allows() {
+        let fits = |gain: i64| {
+            let steps = (0..STEPS as u32).map(|i| 4u64.pow(i) + 1);
+            let factors = steps.chain([gain as u64, gain as u64]);
+            Natural::product(factors).is_at_most_power_of_two(60 + 756)
+        };
+        assert!(fits(GAIN));
+        assert!(!fits(GAIN + 1));
+    }
+
+    #[test]
+    fn powers_of_two_are_compared_exactly() {
+        let power = Natural::product([1 << 40, 1 << 60].into_iter());
+        assert!(power.is_at_most_power_of_two(100));
+        assert!(!power.is_at_most_power_of_two(99));
+        let above = Natural::product([(1 << 50) + 1, 1 << 50].into_iter());
+        assert!(!above.is_at_most_power_of_two(100));
+    }
+}

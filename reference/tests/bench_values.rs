@@ -1,0 +1,118 @@
+//! The bench values of the specification, looked up in what the engine answers.
+
+mod common;
+
+use common::{Both, Case};
+use reference::area::{WorkArea, AREA_WORDS, COLUMNS, ROWS};
+use reference::matrix::{Complex, Matrix};
+use reference::random::Random;
+use reference::records::write_matrix;
+use reference::schedule;
+
+fn both(test: &'static str, record: &[u8]) -> Both {
+    Both::new(Case::new(test, 401, 0, record))
+}
+
+fn filled_with(element: Complex) -> [u8; 257] {
+    write_matrix(&Matrix::from_fn(|_, _| element))
+}
+
+/// The area that Load makes of a matrix with the same element everywhere.
+fn loaded(element: Complex) -> WorkArea {
+    let record = filled_with(element);
+    let mut both = both("loading", &record);
+    assert_eq!(both.load(&record).number, 0);
+    both.area()
+}
+
+#[test]
+fn m1_to_m3_loaded_words() {
+    assert_eq!(loaded(Complex::new(1, 0)).r(0, 0), 8192);
+    assert_eq!(loaded(Complex::new(-32768, 0)).r(0, 0), -268435456);
+    assert_eq!(loaded(Complex::new(0, -32768)).r(0, 8), 268435456);
+}
+
+/// Each turn is seen by what it changes: two rows, from its column on. M4 to M8 are among them.
+#[test]
+fn every_turn_changes_its_rows_from_its_column_on() {
+    let mut random = Random::new(402);
+    let words: [i32; AREA_WORDS] = std::array::from_fn(|_| random.word() >> 3);
+    for (number, turn) in schedule::turns().iter().enumerate() {
+        let mut both = both("turns", &[]);
+        both.fill_area(&words);
+        both.run(number as u32, 1);
+        let after = both.area();
+        for row in 0..ROWS {
+            for column in 0..COLUMNS {
+                let turned = [turn.upper, turn.lower].contains(&row) && column >= turn.column;
+                let changed = after.word(row, column) != words[COLUMNS * row + column];
+                assert!(turned || !changed, "turn {number}, row {row}");
+                assert!(!turned || changed, "turn {number}, row {row}");
+            }
+        }
+        assert_eq!(after.word(turn.lower, turn.column), 0);
+    }
+}
+
+#[test]
+fn m10_to_m12_leading_pairs() {
+    for (upper, lower, outcome) in [(1, 0, 17), (0, 1, 1), (-1, 0, 17)] {
+        let mut words = [0; AREA_WORDS];
+        words[14 * COLUMNS + 14] = upper;
+        words[15 * COLUMNS + 14] = lower;
+        let mut both = both("leading pairs", &[]);
+        both.fill_area(&words);
+        assert_eq!(both.run(119, 1).clamps, 0);
+        assert_eq!(both.area().word(14, 14), outcome);
+        assert_eq!(both.area().word(15, 14), 0);
+    }
+}
+
+#[test]
+fn records_of_257_and_258_bytes_and_areas_of_512_and_513_words() {
+    let record = filled_with(Complex::new(3, -4));
+    let mut long = record.to_vec();
+    long.push(0);
+    for words in [512, 513] {
+        let mut both = both("lengths", &record);
+        both.lend(words, 2049);
+        assert_eq!(both.load(&record).number, 0);
+        assert_eq!(both.load(&long).number, 2);
+        assert_eq!(both.whole(&long).number, 2);
+        assert_eq!(both.whole(&record).number, 0);
+    }
+}
+
+#[test]
+fn allowances_around_the_number_of_turns() {
+    let record = filled_with(Complex::new(-100, 77));
+    for (allowance, made) in [(119, 119), (120, 120), (121, 120)] {
+        let mut both = both("allowances", &record);
+        both.load(&record);
+        let reply = both.run(0, allowance);
+        assert_eq!((reply.made, reply.next, reply.clamps), (made, made, 0));
+        let accepted = both.fetch(reply.next).number == 0;
+        assert_eq!(accepted, made == 120);
+        let rest = both.run(reply.next, allowance);
+        assert_eq!((rest.number, rest.made, rest.next), (0, 120 - made, 120));
+    }
+}
+
+#[test]
+fn a_single_element_and_the_greatest_matrix() {
+    let single = Matrix::from_fn(|i, j| Complex::new(i16::from(i + j == 0), 0));
+    let greatest = Matrix::from_fn(|_, _| Complex::new(-32768, -32768));
+    for (matrix, heard) in [(single, 1), (greatest, 255)] {
+        let record = write_matrix(&matrix);
+        let reply = both("extremes", &record).whole(&record);
+        assert_eq!((reply.number, reply.heard, reply.clamps), (0, heard, 0));
+    }
+}
+
+#[test]
+fn the_hub_that_heard_nothing_is_refused() {
+    let record = filled_with(Complex::ZERO);
+    let mut both = both("silence", &record);
+    assert_eq!(both.load(&record).number, 4);
+    assert_eq!(both.whole(&record).number, 4);
+}

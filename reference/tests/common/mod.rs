@@ -1,0 +1,169 @@
+//! What the differential tests share: one call made on the engine and on the reference, and
+//! everything either could have changed compared afterwards.
+
+// Every test file compiles this module for itself and uses a part of it.
+#![allow(dead_code)]
+
+mod engine;
+mod twin;
+
+use std::fmt::{self, Debug, Display};
+
+use reference::area::{WorkArea, AREA_WORDS};
+use reference::calls;
+use reference::random::Random;
+use reference::records::RESULT_RECORD;
+use reference::replies::{FetchReply, LoadReply, ReadReply, RunReply, WholeReply};
+use twin::Twin;
+
+/// Words and bytes that can be lent beyond what the calls use.
+pub const SPARE: usize = 8;
+
+/// Names a case, so that a failed one can be made again.
+#[derive(Debug, Clone)]
+pub struct Case {
+    pub test: &'static str,
+    pub seed: u64,
+    pub number: u64,
+    /// The record the case is about; empty if it is about none.
+    pub record: Vec<u8>,
+}
+
+impl Case {
+    pub fn new(test: &'static str, seed: u64, number: u64, record: &[u8]) -> Self {
+        let record = record.to_vec();
+        Case {
+            test,
+            seed,
+            number,
+            record,
+        }
+    }
+
+    /// The generator that belongs to this case.
+    pub fn random(&self) -> Random {
+        Random::for_case(self.seed, self.number)
+    }
+}
+
+impl Display for Case {
+    fn fmt(&self, f: &mut fmt::Formatter) -> fmt::Result {
+        write!(f, "{}, seed {}, case {}", self.test, self.seed, self.number)?;
+        write!(f, ", record of {} bytes: ", self.record.len())?;
+        self.record.iter().try_for_each(|b| write!(f, "{b:02X}"))
+    }
+}
+
+/// The engine and the reference side by side, each with its own area and buffer. Every call is
+/// made on both; a difference in the reply or in any word or byte of memory fails the test.
+pub struct Both {
+    case: Case,
+    area: Twin<i32>,
+    buffer: Twin<u8>,
+}
+
+impl Both {
+    /// Lends 512 words and 2,049 bytes, all filled at random.
+    pub fn new(case: Case) -> Self {
+        let mut random = Random::for_case(!case.seed, case.number);
+        let area = Twin::new(AREA_WORDS + SPARE, || random.word());
+        let mut random = Random::for_case(!case.seed, !case.number);
+        let buffer = Twin::new(RESULT_RECORD + SPARE, || random.byte());
+        let mut both = Both { case, area, buffer };
+        both.lend(AREA_WORDS, RESULT_RECORD);
+        both
+    }
+
+    /// Lends that many words and bytes from now on.
+    pub fn lend(&mut self, words: usize, bytes: usize) {
+        self.area.lend(words);
+        self.buffer.lend(bytes);
+    }
+
+    /// How many words and bytes are lent.
+    pub fn lent(&self) -> (usize, usize) {
+        (self.area.lent(), self.buffer.lent())
+    }
+
+    /// Puts words into both areas.
+    pub fn fill_area(&mut self, words: &[i32; AREA_WORDS]) {
+        self.area.fill(words);
+    }
+
+    /// The engine's area as rows and columns.
+    pub fn area(&self) -> WorkArea {
+        let words = self.area.contents().first_chunk();
+        WorkArea::from_words(words.expect("the area always has 512 words"))
+    }
+
+    /// The first 2,049 bytes of the engine's buffer.
+    pub fn fetched(&self) -> Vec<u8> {
+        self.buffer.contents()[..RESULT_RECORD].to_vec()
+    }
+
+    pub fn load(&mut self, record: &[u8]) -> LoadReply {
+        let mut lent = record.to_vec();
+        let engine = engine::load(&mut lent, self.area.engine());
+        let reference = calls::load(record, self.area.reference());
+        self.compare("Load", engine, reference);
+        self.require(lent == record, "Load changed the record");
+        reference
+    }
+
+    pub fn run(&mut self, turn: u32, allowance: u16) -> RunReply {
+        let engine = engine::run(turn, allowance, self.area.engine());
+        let reference = calls::run(turn, allowance, self.area.reference());
+        self.compare(&format!("Run at {turn} of {allowance}"), engine, reference);
+        reference
+    }
+
+    pub fn fetch(&mut self, turn: u32) -> FetchReply {
+        let engine = engine::fetch(turn, self.area.engine(), self.buffer.engine());
+        let reference = calls::fetch(turn, self.area.reference(), self.buffer.reference());
+        self.compare(&format!("Fetch at {turn}"), engine, reference);
+        reference
+    }
+
+    pub fn read(&mut self, record: &[u8]) -> ReadReply {
+        let mut lent = record.to_vec();
+        let engine = engine::read(&mut lent, self.area.engine());
+        let reference = calls::read(record, self.area.reference());
+        self.compare("Read", engine, reference);
+        self.require(lent == record, "Read changed the record");
+        reference
+    }
+
+    pub fn whole(&mut self, record: &[u8]) -> WholeReply {
+        let mut lent = record.to_vec();
+        let engine = engine::whole(&mut lent, self.area.engine(), self.buffer.engine());
+        let reference = calls::whole(record, self.area.reference(), self.buffer.reference());
+        self.compare("Whole", engine, reference);
+        self.require(lent == record, "Whole changed the record");
+        reference
+    }
+
+    /// Fails the test, naming the case, unless the condition holds.
+    pub fn require(&self, condition: bool, otherwise: &str) {
+        assert!(condition, "{otherwise}\n{}", self.case);
+    }
+
+    fn compare<T: PartialEq + Debug>(&self, call: &str, engine: T, reference: T) {
+        if engine != reference {
+            self.fail(call, &format!("engine {engine:?}, reference {reference:?}"));
+        }
+        if let Some(difference) = self.area.difference() {
+            self.fail(call, &format!("area: {difference}"));
+        }
+        if let Some(difference) = self.buffer.difference() {
+            self.fail(call, &format!("buffer: {difference}"));
+        }
+    }
+
+    fn fail(&self, call: &str, what: &str) -> ! {
+        let (words, bytes) = self.lent();
+        panic!(
+            "{call}, {words} words and {bytes} bytes lent: {what}\n{}",
+            self.case
+        )
+    }
+}

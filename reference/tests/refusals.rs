@@ -1,0 +1,162 @@
+//! Every refusal number at every call that can give it. Each test goes through all combinations
+//! of good and bad arguments, so that any set of a call's tests fails together somewhere and the
+//! order of the tests decides.
+
+mod common;
+
+use std::collections::BTreeSet;
+
+use common::{Both, Case};
+use reference::area::AREA_WORDS;
+use reference::cases::Kind;
+use reference::random::Random;
+use reference::records::write_matrix;
+
+const AREA_LENGTHS: [usize; 5] = [0, 1, 511, 512, 513];
+const BUFFER_LENGTHS: [usize; 5] = [0, 1, 2048, 2049, 2050];
+const TURN_NUMBERS: [u32; 7] = [0, 1, 119, 120, 121, 256, u32::MAX];
+const ALLOWANCES: [u16; 7] = [0, 1, 2, 119, 120, 121, 65535];
+
+/// Makes calls on fresh memory, one case each, and gathers the numbers they answer.
+struct Numbers {
+    test: &'static str,
+    cases: u64,
+    seen: BTreeSet<u8>,
+}
+
+impl Numbers {
+    fn new(test: &'static str) -> Self {
+        let seen = BTreeSet::new();
+        Numbers {
+            test,
+            cases: 0,
+            seen,
+        }
+    }
+
+    fn call(&mut self, record: &[u8], words: usize, bytes: usize, call: impl Fn(&mut Both) -> u8) {
+        let mut both = Both::new(Case::new(self.test, 301, self.cases, record));
+        both.lend(words, bytes);
+        self.seen.insert(call(&mut both));
+        self.cases += 1;
+    }
+
+    fn assert_seen(&self, numbers: &[u8]) {
+        assert_eq!(self.seen, numbers.iter().copied().collect());
+        println!("\n{}: {} calls, numbers {numbers:?}", self.test, self.cases);
+    }
+}
+
+/// Good and bad matrix records: empty, too short, too long, of the wrong kind, silent.
+fn matrix_records() -> Vec<Vec<u8>> {
+    let good = write_matrix(&Kind::FullRange.matrix(&mut Random::new(302))).to_vec();
+    let mut silent = vec![0; 257];
+    silent[0] = 1;
+    let mut records = vec![vec![], vec![0], vec![1], vec![2], vec![1; 2049]];
+    for record in [good, silent] {
+        let mut wrong_kind = record.clone();
+        wrong_kind[0] = 2;
+        let mut long = record.clone();
+        long.push(0);
+        records.extend([record[..256].to_vec(), long, wrong_kind, record]);
+    }
+    records
+}
+
+/// The words of a worked matrix, and the same with a word under the diagonal, and with a negative
+/// word on it.
+fn result_areas() -> [[i32; AREA_WORDS]; 3] {
+    let record = write_matrix(&Kind::FullRange.matrix(&mut Random::new(303)));
+    let mut both = Both::new(Case::new("result areas", 303, 0, &record));
+    both.whole(&record);
+    let good = both.area().to_words();
+    let (mut under, mut negative) = (good, good);
+    under[15 * 32 + 14] = 1;
+    negative[14 * 32 + 14] = -1;
+    [good, under, negative]
+}
+
+/// Good and bad result records.
+fn result_records() -> Vec<Vec<u8>> {
+    let mut records = vec![vec![], vec![1], vec![2], vec![2; 257]];
+    let mut good = vec![0; 2049];
+    good[0] = 2;
+    let mut under = good.clone();
+    under[1 + 4 * 16 + 3] = 1;
+    let mut negative = good.clone();
+    negative[1..5].fill(0xFF);
+    for record in [good, under, negative] {
+        let mut wrong_kind = record.clone();
+        wrong_kind[0] = 1;
+        let mut long = record.clone();
+        long.push(0);
+        records.extend([record[..2048].to_vec(), long, wrong_kind, record]);
+    }
+    records
+}
+
+#[test]
+fn load() {
+    let mut numbers = Numbers::new("Load");
+    for record in matrix_records() {
+        for words in AREA_LENGTHS {
+            numbers.call(&record, words, 2049, |both| both.load(&record).number);
+        }
+    }
+    numbers.assert_seen(&[0, 1, 2, 3, 4]);
+}
+
+#[test]
+fn run() {
+    let mut numbers = Numbers::new("Run");
+    for turn in TURN_NUMBERS {
+        for allowance in ALLOWANCES {
+            for words in AREA_LENGTHS {
+                numbers.call(&[], words, 2049, |both| both.run(turn, allowance).number);
+            }
+        }
+    }
+    numbers.assert_seen(&[0, 3, 5]);
+}
+
+#[test]
+fn fetch() {
+    let mut numbers = Numbers::new("Fetch");
+    for area in result_areas() {
+        for turn in TURN_NUMBERS {
+            for words in AREA_LENGTHS {
+                for bytes in BUFFER_LENGTHS {
+                    numbers.call(&[], words, bytes, |both| {
+                        both.fill_area(&area);
+                        both.fetch(turn).number
+                    });
+                }
+            }
+        }
+    }
+    numbers.assert_seen(&[0, 3, 5, 6, 7, 8]);
+}
+
+#[test]
+fn read() {
+    let mut numbers = Numbers::new("Read");
+    for record in result_records() {
+        for words in AREA_LENGTHS {
+            numbers.call(&record, words, 2049, |both| both.read(&record).number);
+        }
+    }
+    numbers.assert_seen(&[0, 1, 2, 3, 8]);
+}
+
+#[test]
+fn whole() {
+    let mut numbers = Numbers::new("Whole");
+    for record in matrix_records() {
+        for words in AREA_LENGTHS {
+            for bytes in BUFFER_LENGTHS {
+                numbers.call(&record, words, bytes, |both| both.whole(&record).number);
+            }
+        }
+    }
+    numbers.assert_seen(&[0, 1, 2, 3, 4, 7]);
+}

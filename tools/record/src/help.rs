@@ -1,0 +1,57 @@
+//! What `--help` prints, for the program and for each command.
+
+pub const ALL: &str = "\
+Makes, shows and checks the records of the eight-antenna QR engine.
+
+Usage:
+  record pack IN.txt OUT.bin     makes a matrix record from a text of 8 by 8 complex numbers
+  record show FILE               prints a matrix, result or refusal record
+  record check MATRIX RESULT     computes the errors of a result and shows them against their limits
+  record COMMAND --help          says more about a command
+
+A file name '-' stands for standard input, and as OUT.bin for standard output.
+
+Exit status: 0 when all is in order, 1 when a file is wrong or a limit is passed, 2 when the command
+line is wrong.
+";
+
+pub const PACK: &str = "\
+Usage: record pack IN.txt OUT.bin
+
+Makes a matrix record of 257 bytes from a text of 8 lines of 8 complex numbers with blanks between
+them. Row r of the matrix is line r, column k belongs to antenna k. What follows a '#' is a remark;
+empty lines are skipped.
+
+A number is a real part, an imaginary part that ends in i or j, or both without blanks: 12, -5i,
+-123+45i. The parts of a file are of one kind; zero fits both:
+  whole numbers       units of 1/32768, from -32768 to 32767, as in -123+45i
+  decimal fractions   parts of one, at least -1.0 and under 1.0, as in 0.5-0.25i, rounded to the
+                      nearest unit (halves away from zero)
+
+When anything is wrong, OUT.bin is not written, and a file of that name stays as it was.
+";
+
+pub const SHOW: &str = "\
+Usage: record show FILE
+
+Prints a record readably. The kind byte says what it is:
+  matrix record    the elements in units of 1/32768 and the antennas that were heard. 'record pack'
+                   makes the same record of this text.
+  result record    R in steps of the 16-bit input (word / 2^13) and Q in parts of one (word / 2^30),
+                   16 by 16 each; a word that is 0 is printed as a bare 0.
+  refusal record   the refusal number and what it means.
+
+A matrix or result that the engine refuses is printed with the reason, and the exit status is 1.
+";
+
+pub const CHECK: &str = "\
+Usage: record check MATRIX RESULT
+
+Computes with exact whole numbers how far the result record RESULT is from factoring the matrix record
+MATRIX, and shows each figure against its limit:
+  every entry of Q times R       within 2^44 of 2^43 times the entry of the input made real, 16 by 16
+  every two rows of Q            their sum of products within 2^44 of 2^60 (a row with itself) or of 0
+  R                              0 under the diagonal, its first 15 diagonal words not negative
+
+Exit status: 0 when all are within their limits, 1 when one is not or a file is no such record.
+";

@@ -1,0 +1,66 @@
+//! The matrix of a matrix record.
+
+/// Rows and columns: one column for each antenna.
+pub const SIZE: usize = 8;
+pub const KIND: u8 = 1;
+pub const BYTES: usize = 1 + 4 * SIZE * SIZE;
+
+/// An element's parts in units of 1/32768.
+#[derive(Clone, Copy, Debug, PartialEq)]
+pub struct Element {
+    pub real: i16,
+    pub imaginary: i16,
+}
+
+#[derive(Debug, PartialEq)]
+pub struct Matrix {
+    pub rows: [[Element; SIZE]; SIZE],
+}
+
+impl Matrix {
+    /// The matrix of a record that is known to have the right kind and length.
+    pub fn from_record(record: &[u8; BYTES]) -> Matrix {
+        let part = |at: usize| i16::from_be_bytes([record[at], record[at + 1]]);
+        let element = |place: usize| Element {
+            real: part(1 + 4 * place),
+            imaginary: part(3 + 4 * place),
+        };
+        let row = |i: usize| std::array::from_fn(|j| element(SIZE * i + j));
+        Matrix {
+            rows: std::array::from_fn(row),
+        }
+    }
+
+    pub fn to_record(&self) -> Vec<u8> {
+        let mut record = vec![KIND];
+        for element in self.rows.iter().flatten() {
+            record.extend(element.real.to_be_bytes());
+            record.extend(element.imaginary.to_be_bytes());
+        }
+        record
+    }
+
+    pub fn is_zero(&self) -> bool {
+        self.heard() == 0
+    }
+
+    /// Bit k is set when column k has an element other than zero.
+    pub fn heard(&self) -> u8 {
+        let column_heard = |k: &usize| {
+            let mut column = self.rows.iter().map(|row| row[*k]);
+            column.any(|element| (element.real, element.imaginary) != (0, 0))
+        };
+        (0..SIZE).filter(column_heard).map(|k| 1 << k).sum()
+    }
+
+    /// Entry (i, j) of the matrix made real, 16 by 16: real parts upper left and lower right,
+    /// imaginary parts lower left, their negatives upper right.
+    pub fn real_entry(&self, i: usize, j: usize) -> i32 {
+        let element = self.rows[i % SIZE][j % SIZE];
+        match (i < SIZE, j < SIZE) {
+            (true, true) | (false, false) => i32::from(element.real),
+            (true, false) => -i32::from(element.imaginary),
+            (false, true) => i32::from(element.imaginary),
+        }
+    }
+}

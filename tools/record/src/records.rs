@@ -1,0 +1,70 @@
+//! Which record a file holds.
+use std::ffi::OsStr;
+
+use crate::factors::{self, Factors};
+use crate::failure::Failure;
+use crate::files;
+use crate::matrix::{self, Matrix};
+use crate::refusal::refused_with;
+
+pub const REFUSAL_KIND: u8 = 3;
+pub const REFUSAL_BYTES: usize = 2;
+
+pub enum Record {
+    Matrix(Box<Matrix>),
+    Result(Box<Factors>),
+    Refusal(u8),
+}
+
+impl Record {
+    pub fn read(file: &OsStr) -> Result<Record, Failure> {
+        // One byte more than the longest record shows that a file is too long.
+        let bytes = files::read_up_to(file, factors::BYTES + 1)?;
+        let named = |message| Failure::Input(format!("{}: {message}", files::shown(file)));
+        Record::from_bytes(&bytes).map_err(named)
+    }
+
+    fn from_bytes(bytes: &[u8]) -> Result<Record, String> {
+        match bytes.first() {
+            None => Err(format!("empty: {}", refused_with(1))),
+            Some(&matrix::KIND) => match bytes.try_into() {
+                Ok(record) => Ok(Record::Matrix(Box::new(Matrix::from_record(record)))),
+                Err(_) => Err(wrong_length(bytes, "a matrix", matrix::BYTES)),
+            },
+            Some(&factors::KIND) => match bytes.try_into() {
+                Ok(record) => Ok(Record::Result(Box::new(Factors::from_record(record)))),
+                Err(_) => Err(wrong_length(bytes, "a result", factors::BYTES)),
+            },
+            Some(&REFUSAL_KIND) => match bytes {
+                [_, number] => Ok(Record::Refusal(*number)),
+                _ => Err(has_length(bytes, "a refusal", REFUSAL_BYTES)),
+            },
+            Some(kind) => Err(format!(
+                "the kind byte is {kind:02X}; records begin with 01 (matrix), 02 (result) or \
+                 03 (refusal): {}",
+                refused_with(1)
+            )),
+        }
+    }
+
+    /// The record's name in a sentence.
+    pub fn name(&self) -> &'static str {
+        match self {
+            Record::Matrix(_) => "a matrix record",
+            Record::Result(_) => "a result record",
+            Record::Refusal(_) => "a refusal record",
+        }
+    }
+}
+
+fn wrong_length(bytes: &[u8], kind: &str, expected: usize) -> String {
+    format!("{}: {}", has_length(bytes, kind, expected), refused_with(2))
+}
+
+fn has_length(bytes: &[u8], kind: &str, expected: usize) -> String {
+    let found = match bytes.len() {
+        length if length > factors::BYTES => format!("more than {}", factors::BYTES),
+        length => length.to_string(),
+    };
+    format!("{kind} record has {expected} bytes, this one {found}")
+}

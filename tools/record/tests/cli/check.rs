@@ -1,0 +1,157 @@
+use crate::tool::{add_to_word, diagonal_result, matrix_record, worked, Folder, Outcome};
+
+fn check(folder: &Folder, matrix: &[u8], result: &[u8]) -> Outcome {
+    folder.write("m.bin", matrix);
+    folder.write("r.bin", result);
+    folder.run(&["check", "m.bin", "r.bin"])
+}
+
+/// The verdicts in the last column of the four figures.
+fn verdicts(outcome: &Outcome) -> Vec<&str> {
+    let figures = outcome.text().lines().skip(1).take(4);
+    figures
+        .map(|line| line.split(' ').next_back().unwrap())
+        .collect()
+}
+
+const ALL_WITHIN: [&str; 4] = ["within"; 4];
+
+#[test]
+fn what_the_engine_makes_is_within_its_limits() {
+    let folder = Folder::new("check-engine");
+    for matrix in [
+        matrix_record(1, (0, 0)),
+        matrix_record(0, (0, -1)),
+        matrix_record(-32768, (-32768, -32768)),
+        matrix_record(12345, (-777, 32767)),
+    ] {
+        let outcome = check(&folder, &matrix, &worked(&matrix));
+        assert_eq!((outcome.status, outcome.stderr.as_str()), (0, ""));
+        assert_eq!(verdicts(&outcome), ALL_WITHIN);
+        assert!(outcome.text().ends_with("\nall within their limits\n"));
+    }
+}
+
+/// With one in Q and the input in R there is no error at all, so that the limits are met to the unit.
+#[test]
+fn the_limits_are_met_exactly() {
+    let folder = Folder::new("check-exact");
+    let matrix = matrix_record(5, (0, 0));
+    let exact = diagonal_result(5 << 13, 1 << 30);
+    let outcome = check(&folder, &matrix, &exact);
+    assert_eq!(
+        (outcome.status, verdicts(&outcome)),
+        (0, ALL_WITHIN.to_vec())
+    );
+
+    let (product, rows) = (0, 1);
+    for (place, summand, largest, outside) in [
+        (3 * 17, 1 << 14, "17592186044416", None),
+        (3 * 17, (1 << 14) + 1, "17593259786240", Some(product)),
+        (3 * 17, -(1 << 14) - 1, "17593259786240", Some(product)),
+        (256 + 1, 1 << 14, "17592186044416", None),
+        (256 + 1, (1 << 14) + 1, "17593259786240", Some(rows)),
+    ] {
+        let mut result = exact.clone();
+        add_to_word(&mut result, place, summand);
+        let outcome = check(&folder, &matrix, &result);
+        let mut expected = ALL_WITHIN;
+        if let Some(figure) = outside {
+            expected[figure] = "OUTSIDE";
+        }
+        assert_eq!(verdicts(&outcome), expected, "{}", outcome.text());
+        assert!(outcome.text().contains(largest), "{}", outcome.text());
+        assert_eq!(outcome.status, i32::from(outside.is_some()));
+    }
+}
+
+#[test]
+fn the_rules_of_r_are_counted() {
+    let folder = Folder::new("check-rules");
+    let matrix = matrix_record(5, (0, 0));
+    let mut result = diagonal_result(5 << 13, 1 << 30);
+    add_to_word(&mut result, 16, 1);
+    add_to_word(&mut result, 250, -1);
+    let outcome = check(&folder, &matrix, &result);
+    assert_eq!(
+        verdicts(&outcome),
+        ["within", "within", "OUTSIDE", "within"]
+    );
+    assert!(
+        outcome.text().contains(" 2   of 120 "),
+        "{}",
+        outcome.text()
+    );
+    assert_eq!(outcome.status, 1);
+
+    let negative = diagonal_result(-5 << 13, -1 << 30);
+    let outcome = check(&folder, &matrix, &negative);
+    assert_eq!(
+        verdicts(&outcome),
+        ["within", "within", "within", "OUTSIDE"]
+    );
+    assert!(
+        outcome.text().contains(" 15   of 15 "),
+        "{}",
+        outcome.text()
+    );
+    assert!(outcome.text().ends_with("\nnot all within their limits\n"));
+    assert_eq!(outcome.status, 1);
+}
+
+#[test]
+fn a_result_of_another_matrix_is_outside() {
+    let folder = Folder::new("check-other");
+    let other = worked(&matrix_record(5, (1, 3)));
+    let outcome = check(&folder, &matrix_record(5, (1, -3)), &other);
+    assert_eq!(verdicts(&outcome)[0], "OUTSIDE");
+    assert_eq!(outcome.status, 1);
+}
+
+#[test]
+fn one_record_may_come_from_standard_input() {
+    let folder = Folder::new("check-standard");
+    let matrix = matrix_record(5, (1, 3));
+    folder.write("m.bin", &matrix);
+    let outcome = folder.run_with_input(&["check", "m.bin", "-"], &worked(&matrix));
+    assert_eq!(
+        (outcome.status, verdicts(&outcome)),
+        (0, ALL_WITHIN.to_vec())
+    );
+    let outcome = folder.run(&["check", "-", "-"]);
+    assert_eq!(outcome.status, 2);
+}
+
+#[test]
+fn records_of_the_wrong_kind_are_named() {
+    let folder = Folder::new("check-kinds");
+    let matrix = matrix_record(5, (1, 3));
+    let result = worked(&matrix);
+    let zeros = matrix_record(0, (0, 0));
+    for (first, second, message) in [
+        (
+            &result,
+            &result,
+            "m.bin is a result record, a matrix record is needed here",
+        ),
+        (
+            &matrix,
+            &matrix,
+            "r.bin is a matrix record, a result record is needed here",
+        ),
+        (
+            &matrix,
+            &vec![3, 4],
+            "r.bin is a refusal record, a result record is needed here",
+        ),
+        (
+            &zeros,
+            &result,
+            "m.bin: the engine refuses it with number 4: all 64 elements of the matrix are zero",
+        ),
+    ] {
+        let outcome = check(&folder, first, second);
+        assert_eq!(outcome.stderr, format!("record: {message}\n"));
+        assert_eq!((outcome.status, outcome.text()), (1, ""));
+    }
+}

@@ -1,0 +1,7 @@
+//! The program `record` as people run it.
+mod check;
+mod pack;
+mod samples;
+mod show;
+mod tool;
+mod usage;

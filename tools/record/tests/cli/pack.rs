@@ -1,0 +1,143 @@
+use crate::tool::{matrix_record, Folder};
+
+/// Eight lines with `diagonal` on the diagonal, 0 elsewhere, and `corner` as the last of line 0.
+fn text(diagonal: &str, corner: &str) -> String {
+    let number = |i, j| match (i, j) {
+        (0, 7) => corner,
+        (i, j) if i == j => diagonal,
+        _ => "0",
+    };
+    let line = |i| [0, 1, 2, 3, 4, 5, 6, 7].map(|j| number(i, j)).join("  ") + "\n";
+    (0..8).map(line).collect()
+}
+
+#[test]
+fn whole_numbers_and_fractions_become_a_record() {
+    let folder = Folder::new("pack-good");
+    for (name, content, expected) in [
+        (
+            "units",
+            text("-7", "-32768+32767i"),
+            matrix_record(-7, (-32768, 32767)),
+        ),
+        (
+            "parts",
+            text("0.5", "-1.0-0.25i"),
+            matrix_record(16384, (-32768, -8192)),
+        ),
+        (
+            "remarks",
+            format!("# one\n\n{}# end", text("1", "2j")),
+            matrix_record(1, (0, 2)),
+        ),
+        (
+            "carriage",
+            text("1", "2j").replace('\n', "\r\n"),
+            matrix_record(1, (0, 2)),
+        ),
+    ] {
+        folder.write("in.txt", content);
+        let outcome = folder.run(&["pack", "in.txt", name]);
+        assert_eq!((outcome.status, outcome.stderr.as_str()), (0, ""));
+        assert_eq!(folder.read(name), expected, "{name}");
+    }
+    let outcome = folder.run(&["pack", "in.txt", "out.bin"]);
+    let heard = "heard antennas: 0 1 2 3 4 5 6 7 (heard byte FF), silent: none";
+    assert_eq!(outcome.text(), format!("out.bin: matrix record, {heard}\n"));
+}
+
+#[test]
+fn standard_input_and_output_will_do() {
+    let folder = Folder::new("pack-standard");
+    let outcome = folder.run_with_input(&["pack", "-", "-"], text("3", "4i").as_bytes());
+    assert_eq!((outcome.status, outcome.stderr.as_str()), (0, ""));
+    assert_eq!(outcome.stdout, matrix_record(3, (0, 4)));
+    assert!(folder.names().is_empty());
+}
+
+#[test]
+fn zeros_are_packed_with_a_remark() {
+    let folder = Folder::new("pack-zeros");
+    folder.write("in.txt", text("0", "0.0"));
+    let outcome = folder.run(&["pack", "in.txt", "out.bin"]);
+    assert_eq!(outcome.status, 0);
+    assert_eq!(folder.read("out.bin"), matrix_record(0, (0, 0)));
+    let remark = "the engine refuses it with number 4: all 64 elements of the matrix are zero";
+    assert_eq!(outcome.stderr, format!("record: {remark}\n"));
+}
+
+#[test]
+fn bad_text_is_pointed_at_and_nothing_is_written() {
+    let folder = Folder::new("pack-bad");
+    folder.write("old.bin", "as it was");
+    for (content, message) in [
+        (text("1", "32768"), "line 1, column 22: 32768 is out of range: whole numbers go from -32768 to 32767"),
+        (text("0.5", "1.0"), "line 1, column 24: 1.0 is out of range: fractions go from -1.0 to 0.99997 (32767/32768)"),
+        (text("1", "1+2k"), "line 1, column 25: 'i' behind the imaginary part expected, found 'k'"),
+        (text("1", "2 3"), "line 1, column 24: a ninth number in row 0, a row has 8"),
+        (text("1", ""), "line 1, column 20: row 0 ends after 7 numbers, 8 are needed"),
+        (text("1", "2") + "3", "line 9, column 1: a ninth row of numbers, a matrix has 8"),
+        ("\n".into(), "line 1, column 1: the text ends after 0 rows of numbers, 8 are needed"),
+    ] {
+        folder.write("in.txt", content);
+        for target in ["old.bin", "new.bin", "-"] {
+            let outcome = folder.run(&["pack", "in.txt", target]);
+            assert_eq!(outcome.stderr, format!("record: in.txt: {message}\n"));
+            assert_eq!((outcome.status, outcome.text()), (1, ""));
+        }
+    }
+    assert_eq!(folder.names(), ["in.txt", "old.bin"]);
+    assert_eq!(folder.read("old.bin"), b"as it was");
+}
+
+#[test]
+fn what_is_no_text_is_refused() {
+    let folder = Folder::new("pack-no-text");
+    folder.write("latin.txt", [b"1 1 1 \xb5".as_slice(), &[b' '; 9]].concat());
+    folder.write("long.txt", vec![b'\n'; (1 << 20) + 1]);
+    for (name, message) in [
+        ("latin.txt", "latin.txt: no text: byte 6 is not UTF-8"),
+        (
+            "long.txt",
+            "long.txt: longer than 1 MiB, which is no 8 by 8 matrix",
+        ),
+        (
+            "absent.txt",
+            "absent.txt: No such file or directory (os error 2)",
+        ),
+    ] {
+        let outcome = folder.run(&["pack", name, "out.bin"]);
+        assert_eq!(outcome.stderr, format!("record: {message}\n"));
+        assert_eq!(outcome.status, 1);
+    }
+    assert_eq!(folder.names(), ["latin.txt", "long.txt"]);
+}
+
+#[test]
+fn a_place_that_takes_no_file_is_left_alone() {
+    let folder = Folder::new("pack-no-place");
+    folder.write("in.txt", text("1", "2"));
+    folder.make_folder("folder");
+    for (target, message) in [
+        ("folder", "folder: not a regular file"),
+        (
+            "absent/out.bin",
+            "absent/out.bin: No such file or directory (os error 2)",
+        ),
+    ] {
+        let outcome = folder.run(&["pack", "in.txt", target]);
+        assert_eq!(outcome.stderr, format!("record: {message}\n"));
+        assert_eq!(outcome.status, 1);
+    }
+    assert_eq!(folder.names(), ["folder", "in.txt"]);
+}
+
+#[test]
+fn an_existing_file_is_replaced_and_no_litter_stays() {
+    let folder = Folder::new("pack-replace");
+    folder.write("in.txt", text("1", "2"));
+    folder.write("out.bin", "as it was");
+    assert_eq!(folder.run(&["pack", "in.txt", "out.bin"]).status, 0);
+    assert_eq!(folder.read("out.bin"), matrix_record(1, (2, 0)));
+    assert_eq!(folder.names(), ["in.txt", "out.bin"]);
+}

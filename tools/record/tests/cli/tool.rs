@@ -1,0 +1,124 @@
+//! Running the program in a folder of its own, and records to give it.
+use std::fs;
+use std::io::Write;
+use std::path::PathBuf;
+use std::process::{Command, Stdio};
+
+use hubqr::{AREA_WORDS, KIND_MATRIX, RESULT_RECORD_BYTES};
+
+/// What a run of the program left.
+pub struct Outcome {
+    pub status: i32,
+    pub stdout: Vec<u8>,
+    pub stderr: String,
+}
+
+impl Outcome {
+    pub fn text(&self) -> &str {
+        std::str::from_utf8(&self.stdout).unwrap()
+    }
+}
+
+/// A folder in which a test runs the program.
+pub struct Folder {
+    path: PathBuf,
+}
+
+impl Folder {
+    /// An empty folder. Each test has a name of its own.
+    pub fn new(name: &str) -> Folder {
+        let path = PathBuf::from(env!("CARGO_TARGET_TMPDIR")).join(name);
+        if path.exists() {
+            fs::remove_dir_all(&path).unwrap();
+        }
+        fs::create_dir_all(&path).unwrap();
+        Folder { path }
+    }
+
+    pub fn write(&self, name: &str, content: impl AsRef<[u8]>) {
+        fs::write(self.path.join(name), content).unwrap();
+    }
+
+    pub fn make_folder(&self, name: &str) {
+        fs::create_dir(self.path.join(name)).unwrap();
+    }
+
+    pub fn read(&self, name: &str) -> Vec<u8> {
+        fs::read(self.path.join(name)).unwrap()
+    }
+
+    /// The names of everything in the folder, in order.
+    pub fn names(&self) -> Vec<String> {
+        let entries = fs::read_dir(&self.path).unwrap();
+        let name = |entry: std::io::Result<fs::DirEntry>| entry.unwrap().file_name();
+        let mut names: Vec<String> = entries
+            .map(|entry| name(entry).into_string().unwrap())
+            .collect();
+        names.sort();
+        names
+    }
+
+    pub fn run(&self, arguments: &[&str]) -> Outcome {
+        self.run_with_input(arguments, &[])
+    }
+
+    pub fn run_with_input(&self, arguments: &[&str], input: &[u8]) -> Outcome {
+        let mut child = Command::new(env!("CARGO_BIN_EXE_record"))
+            .args(arguments)
+            .current_dir(&self.path)
+            .stdin(Stdio::piped())
+            .stdout(Stdio::piped())
+            .stderr(Stdio::piped())
+            .spawn()
+            .unwrap();
+        // A program that does not read its input may have ended by now.
+        let _ = child.stdin.take().unwrap().write_all(input);
+        let output = child.wait_with_output().unwrap();
+        Outcome {
+            status: output.status.code().unwrap(),
+            stdout: output.stdout,
+            stderr: String::from_utf8(output.stderr).unwrap(),
+        }
+    }
+}
+
+/// A matrix record with these real parts on its diagonal and `corner` as element (0, 7).
+pub fn matrix_record(diagonal: i16, corner: (i16, i16)) -> Vec<u8> {
+    let mut record = vec![KIND_MATRIX];
+    for place in 0..64 {
+        let (real, imaginary) = match (place / 8, place % 8) {
+            (0, 7) => corner,
+            (i, j) if i == j => (diagonal, 0),
+            _ => (0, 0),
+        };
+        record.extend(real.to_be_bytes());
+        record.extend(imaginary.to_be_bytes());
+    }
+    record
+}
+
+/// The result record that the engine makes of a matrix record.
+pub fn worked(matrix: &[u8]) -> Vec<u8> {
+    let mut result = vec![0; RESULT_RECORD_BYTES];
+    hubqr::whole(matrix, &mut [0; AREA_WORDS], &mut result).unwrap();
+    result
+}
+
+/// A result record of two diagonal matrices, one with `r` and one with `q` on its diagonal.
+pub fn diagonal_result(r: i32, q: i32) -> Vec<u8> {
+    let mut record = vec![hubqr::KIND_RESULT];
+    for diagonal in [r, q] {
+        for place in 0..256 {
+            let word = if place % 17 == 0 { diagonal } else { 0 };
+            record.extend(word.to_be_bytes());
+        }
+    }
+    record
+}
+
+/// Adds to a word of a result record: the words of R row by row, then those of Q transposed.
+pub fn add_to_word(record: &mut [u8], place: usize, summand: i32) {
+    let bytes = &mut record[1 + 4 * place..][..4];
+    let word = i32::from_be_bytes(bytes.try_into().unwrap());
+    bytes.copy_from_slice(&(word + summand).to_be_bytes());
+}
