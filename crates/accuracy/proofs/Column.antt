@@ -3,14 +3,13 @@ use mathlib.Core.Path.{_≡_, refl, _∙_}
 use mathlib.Core.Bool.{Bool, true, false, cond}
 use mathlib.Core.List.{List}
 use Prim.Native.Nat.{ℕ, _+_, _*_, zero-le}
-use native.Mathlib.Omega.{arith}
 use lib.Dec.{T, ltb, le→leb, lit<}
-use borrow.Author.Tests.{le-ltb}
 use lib.IntN.{ℤ, pos, negsuc}
 use lib.Signed.{nonNeg, _≤ℤ_, leZ-yes}
 use lib.ListN.{getD}
 use mir.Syntax.{w32}
-use mir.Val.{SFits}
+use Rattle.cordic.proofs.Words.{saturate-fits}
+use Rattle.cordic.specs.Norm.{dot, normBound}
 use Rattle.cordic.specs.declared.Pair.{Pair}
 use Rattle.cordic.specs.declared.Word.{Word}
 use Rattle.cordic.specs.Word.{saturate}
@@ -18,17 +17,9 @@ use Rattle.givens.specs.Rotation.{columnAt, rotatedAt, stored}
 use Rattle.givens.proofs.Places.{outOf}
 use Rattle.integers.specs.Within.{Within}
 use Rattle.integers.proofs.Within.{within-fits}
-use Rattle.cordic.proofs.Step.{dot}
-use Rattle.cordic.proofs.Telescope.{normBound}
 use Rattle.cordic.proofs.Rotation.{rotatedPair, rotation-words, rotation-upper}
 
 -- ---- saturation
-
--- a word that fits 32 bits is stored as it is
-pub saturate-fits : (z : ℤ) → SFits w32 z → saturate z ≡ record { value = z; saturated = false }
-unfolding saturate
-saturate-fits (pos n) f = rw (le-ltb 2147483647 n (omega (arith, f .sfits)))
-saturate-fits (negsuc n) f = rw (le-ltb 2147483647 n (omega (arith, f .sfits)))
 
 -- a word that is not negative is stored as one
 saturate-nonneg : (z : ℤ) → T (nonNeg z) → pos 0 ≤ℤ saturate z .value

@@ -9,15 +9,16 @@ use native.Mathlib.Decide.{ℕ-discrete, decLe}
 use native.Mathlib.Omega.{arith}
 use lib.IntN.{ℤ, pos, natAbs, _+ℤ_, _-ℤ_, _*ℤ_, zero-*ℤ, *ℤ-comm}
 use lib.Signed.{_≤ℤ_, ≤ℤ-refl}
+use Rattle.cordic.specs.Norm.{normBound}
 use Rattle.integers.specs.Within.{Within}
 use Rattle.integers.specs.Sum.{sum}
-use Rattle.integers.proofs.Laws.{square, square-is}
+use Rattle.integers.proofs.Laws.{square-is}
+use Rattle.integers.specs.Square.{square}
 use Rattle.integers.proofs.Within.{within-refl, within-trans, within-common, within-le, within-abs}
 use Rattle.integers.proofs.Sum.{sum-equal, others, sum-others, others-equal, total, sum-total, two-of-total}
 use Rattle.integers.proofs.Claim.{both, Means, each-at}
 use Rattle.schedule.specs.declared.Rotation.{Rotation}
 use Rattle.schedule.specs.Schedule.{rotationAt}
-use Rattle.cordic.proofs.Telescope.{normBound}
 use Rattle.accuracy.proofs.Grid.{Grid, gram, pair, pairNorm, Rotated}
 use Rattle.schedule.proofs.Clear.{elsewhere, apart, allApart, cleared, raised, fits, done, done-none, done-next, next-fits, rotation-shape, diagonal-raised, below-cleared}
 

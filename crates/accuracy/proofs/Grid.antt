@@ -7,11 +7,11 @@ use Prim.Native.Nat.{ℕ, _+_, _*_, _^_, _≤_, _<_}
 use lib.IntN.{ℤ, pos, natAbs, _+ℤ_, _-ℤ_, _*ℤ_}
 use lib.Signed.{_≤ℤ_}
 use lib.Dec.{ltb, eqb}
+use Rattle.cordic.specs.Norm.{normBound}
 use Rattle.integers.specs.Within.{Within}
 use Rattle.integers.specs.Sum.{sum}
-use Rattle.integers.proofs.Laws.{square}
+use Rattle.integers.specs.Square.{square}
 use Rattle.schedule.specs.declared.Rotation.{Rotation}
-use Rattle.cordic.proofs.Telescope.{normBound}
 
 -- row, then column
 abbrev pub Grid : Type 0

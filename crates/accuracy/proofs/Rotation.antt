@@ -15,6 +15,7 @@ use lib.IntN.{ℤ, pos, _-ℤ_}
 use lib.Signed.{_≤ℤ_}
 use lib.ListN.{length, getD, take, drop, List·getD-append}
 use lib.Seq.{getD-take, getD-drop, getD-append-add}
+use Rattle.cordic.specs.Norm.{dot, normBound}
 use Rattle.cordic.specs.declared.Column.{Column}
 use Rattle.givens.specs.Rotation.{written, leadingWritten, rowsWritten, rotated}
 use Rattle.givens.proofs.Places.{outOf, rotated-upper, rotated-lower, rotated-zero, rotated-other}
@@ -26,8 +27,6 @@ use Rattle.integers.proofs.Within.{within}
 use Rattle.integers.proofs.Laws.{abs-squares}
 use Rattle.records.specs.Result.{wordIn}
 use Rattle.cordic.specs.declared.Pair.{Pair}
-use Rattle.cordic.proofs.Step.{dot}
-use Rattle.cordic.proofs.Telescope.{normBound}
 use Rattle.cordic.proofs.Rotation.{cleared, rotation-dot}
 use Rattle.accuracy.proofs.Grid.{pair, pairNorm, Rotated}
 use Rattle.accuracy.proofs.Column.{before, rotating, out-nonneg, out-short}

@@ -11,11 +11,10 @@ use lib.Signed.{nonNeg}
 use Rattle.integers.specs.Within.{Within}
 use Rattle.integers.proofs.Within.{within}
 use Rattle.integers.proofs.Laws.{sub-cases}
-use Rattle.cordic.proofs.Step.{Small}
+use Rattle.cordic.specs.Norm.{Small, most}
 use Rattle.cordic.specs.declared.Pair.{Pair}
 use Rattle.cordic.specs.MicroRotation.{microRotation, microRotations, leading, sign}
 use Rattle.cordic.proofs.Growth.{leading-is}
-use Rattle.cordic.proofs.Telescope.{most}
 
 -- a micro-rotation by the column's own sign
 abbrev own : ℕ → Pair → Pair

@@ -13,14 +13,14 @@ use lib.Dec.{T, lit≤}
 use borrow.Author.Tests.{le-ltb}
 use lib.IntN.{ℤ, pos, negsuc, natAbs, _-ℤ_}
 use lib.Signed.{nonNeg, ltZ}
+use Rattle.cordic.specs.Norm.{dot, Small, most, normBound}
 use Rattle.cordic.specs.declared.Pair.{Pair}
 use Rattle.cordic.specs.Word.{gain, scaled}
 use Rattle.cordic.specs.MicroRotation.{oriented, microRotations, sign, orientedPair}
 use Rattle.integers.specs.Within.{Within}
 use Rattle.integers.proofs.Within.{within-*, within-neg, within-pos, within-as, within-trans, within-le}
 use Rattle.integers.proofs.Ring.{con, neg, _⊕_, _⊝_, _⊗_, _≐_, ring}
-use Rattle.cordic.proofs.Step.{dot, Small}
-use Rattle.cordic.proofs.Telescope.{most, normBound, Kept, kept-steps, near-small}
+use Rattle.cordic.proofs.Telescope.{Kept, kept-steps, near-small}
 use Rattle.cordic.proofs.Residue.{Lead, lead-last, lead-rest}
 use Rattle.cordic.proofs.Scale.{scaledPair, scaled-small, scaled-rest, scaled-dot, dot-small}
 
@@ -42,7 +42,7 @@ cleared true c = record { u = c .u; v = pos 0 }
 cleared false c = c
 
 -- ---- 1. keeps each dot product
-orient-dot : (b : Bool) (c d : Pair) → dot (orient b c) (orient b d) ≡ dot c d
+pub orient-dot : (b : Bool) (c d : Pair) → dot (orient b c) (orient b d) ≡ dot c d
 unfolding orientedPair oriented
 orient-dot true c d = ring (c .u ∷ c .v ∷ d .u ∷ d .v ∷ []) (λ x y z w. neg x ⊗ neg z ⊕ neg y ⊗ neg w ≐ x ⊗ z ⊕ y ⊗ w) tt
 orient-dot false c d = refl

@@ -15,11 +15,11 @@ use Rattle.integers.proofs.Laws.{abs-*, abs-+, abs-squares}
 use Rattle.integers.proofs.Floor.{Floor, floor}
 use Rattle.integers.proofs.Order.{square≥0}
 use Rattle.integers.proofs.Ring.{con, neg, _⊕_, _⊝_, _⊗_, _≐_, eqn, _⊢_≐_, combine, le, _⊢_≼_, lin}
+use Rattle.cordic.specs.Norm.{dot, Small, most, normBound}
 use Rattle.cordic.specs.declared.Pair.{Pair}
 use Rattle.cordic.specs.Word.{gain, scaled}
 use Rattle.cordic.specs.Gain.{shrunk, stretched}
-use Rattle.cordic.proofs.Step.{dot, Small}
-use Rattle.cordic.proofs.Telescope.{most, Near, normBound, sharp}
+use Rattle.cordic.proofs.Telescope.{Near, sharp}
 
 abbrev pub scaledPair : Pair → Pair
 scaledPair c = record { u = scaled (c .u); v = scaled (c .v) }

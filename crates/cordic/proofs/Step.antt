@@ -9,6 +9,7 @@ use native.Mathlib.Nat.{le-refl, le-of-lt}
 use native.Mathlib.Omega.{arith}
 use lib.IntN.{ℤ, pos, negℤ, _+ℤ_, _-ℤ_, _*ℤ_}
 use lib.Signed.{shrZ}
+use Rattle.cordic.specs.Norm.{dot, Small}
 use Rattle.cordic.specs.declared.Pair.{Pair}
 use Rattle.cordic.specs.MicroRotation.{microRotation}
 use lib.Pow.{pow-pos}
@@ -16,15 +17,6 @@ use Rattle.integers.specs.Within.{Within}
 use Rattle.integers.proofs.Within.{within, within-+, within--, within-*, within-neg, within-pos, within-as}
 use Rattle.integers.proofs.Floor.{Floor, floor, shr-abs}
 use Rattle.integers.proofs.Ring.{con, neg, _⊕_, _⊝_, _⊗_, _≐_, ring, eqn, _⊢_≐_, combine}
-
--- the dot product of two columns in their two rows
-abbrev pub dot : Pair → Pair → ℤ
-dot c d = c .u *ℤ d .u +ℤ c .v *ℤ d .v
-
--- both words of a column are at most M
-pub record Small (M : ℕ) (c : Pair) : Type 0 where
-  pub u : Within (c .u) M
-  pub v : Within (c .v) M
 
 -- ---- the dot product, with the floors as numbers of their own
 module _ (m uc vc ud vd quc qvc qud qvd ruc rvc rud rvd : ℤ) where

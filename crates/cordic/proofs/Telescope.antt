@@ -16,10 +16,11 @@ use Rattle.integers.proofs.Laws.{abs-*, abs-squares}
 use Rattle.integers.proofs.Ring.{con, _⊕_, _⊝_, _⊗_, _≐_, ring}
 use Rattle.lists.specs.Lists.{allBelow}
 use Rattle.lists.proofs.Passing.{all-at}
+use Rattle.cordic.specs.Norm.{dot, Small, normBound, most}
 use Rattle.cordic.specs.declared.Pair.{Pair}
 use Rattle.cordic.specs.MicroRotation.{microRotation, microRotations}
 use Rattle.cordic.specs.Gain.{shrunk, stretched}
-use Rattle.cordic.proofs.Step.{dot, Small, step-dot, step-small}
+use Rattle.cordic.proofs.Step.{step-dot, step-small}
 
 -- ---- the growth is the fraction stretched / shrunk; the error, for micro-rotations of error B each
 abbrev pub err : ℕ → ℕ → ℕ
@@ -74,15 +75,7 @@ squares-small M c h = record { u = within (root-le (natAbs (c .u)) M (omega (ari
     both : natAbs (c .u) * natAbs (c .u) + natAbs (c .v) * natAbs (c .v) ≤ M * M
     both = rw (abs-squares (c .u) (c .v)) at (h .abs)
 
--- ---- how large u² + v² may be before a rotation
-abbrev pub normBound : ℕ
-normBound = 2 ^ 60 + 2 ^ 44
-
--- so each word stays within this all the way
-abbrev pub most : ℕ
-most = 2 ^ 31 - 1
-
--- the errors of a micro-rotation: before that is known of its result, and after
+-- ---- the errors of a micro-rotation: before that is known of its result, and after
 abbrev pub crude : ℕ
 crude = 4 * (most + most) + 2
 

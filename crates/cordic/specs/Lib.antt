@@ -2,3 +2,4 @@
 pub mod Word
 pub mod MicroRotation
 pub mod Gain
+pub mod Norm

@@ -2,3 +2,5 @@
 pub mod Pairs
 pub mod Written
 pub mod Places
+pub mod Mask
+pub mod Norms

@@ -9,6 +9,7 @@ use native.Mathlib.Omega.{arith}
 use lib.Dec.{T, ltb, ltb→lt, nltb→le}
 use lib.IntN.{ℤ, pos, negsuc, predℤ, negℤ, natAbs, subℕ, _+ℤ_, _-ℤ_, _*ℤ_}
 use lib.IntN.{+ℤ-idl, +ℤ-assoc, +ℤ-comm, +ℤ-invl, +ℤ-negℤ-cancel, negℤ-negℤ}
+use Rattle.integers.specs.Square.{square}
 use lib.IntN.{sucℤ-+ℤ, predℤ-+ℤ, sucℤ-*ℤ, predℤ-*ℤ, zero-*ℤ, *ℤ-comm}
 
 -- ---- sums of three and four
@@ -107,9 +108,6 @@ abs-+ (negsuc a) (pos b) = abs-sub-le b (suc a) (suc a + b) (omega arith) (omega
 abs-+ (negsuc a) (negsuc b) = omega arith
 
 -- ---- squares
-abbrev pub square : ℤ → ℕ
-square x = natAbs x * natAbs x
-
 pub square-is : (x : ℤ) → x *ℤ x ≡ pos (square x)
 square-is (pos a) = refl
 square-is (negsuc a) = refl
