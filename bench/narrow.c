@@ -24,11 +24,11 @@ static int32_t toward(int32_t mask, int32_t w)
     return (w ^ mask) - mask;
 }
 
-/* Micro-step i of the columns from the leading one on. */
-static void micro_step(int32_t *restrict u, int32_t *restrict v, int leading, int i)
+/* Micro-step i of the first `count` columns, of which the first is the leading one. */
+static void micro_step(int32_t *restrict u, int32_t *restrict v, int count, int i)
 {
-    int32_t mask = v[leading] >> 31;
-    for (int k = leading; k < COLUMNS; k++) {
+    int32_t mask = v[0] >> 31;
+    for (int k = 0; k < count; k++) {
         int32_t a = toward(mask, v[k] >> i);
         int32_t b = toward(mask, u[k] >> i);
         u[k] += a;
@@ -36,22 +36,23 @@ static void micro_step(int32_t *restrict u, int32_t *restrict v, int leading, in
     }
 }
 
-static void rotate_small(int32_t *restrict upper, int32_t *restrict lower, int leading)
+/* The rows to work in begin with the leading column, so that a compiler's vectors begin where the arrays do. */
+static void rotate_small(int32_t *restrict upper, int32_t *restrict lower, int count)
 {
     int32_t u[COLUMNS], v[COLUMNS];
-    int32_t mask = upper[leading] >> 31;
-    for (int k = leading; k < COLUMNS; k++) {
+    int32_t mask = upper[0] >> 31;
+    for (int k = 0; k < count; k++) {
         u[k] = toward(mask, upper[k]);
         v[k] = toward(mask, lower[k]);
     }
     for (int i = 0; i < STEPS; i++) {
-        micro_step(u, v, leading, i);
+        micro_step(u, v, count, i);
     }
-    for (int k = leading; k < COLUMNS; k++) {
+    for (int k = 0; k < count; k++) {
         upper[k] = (int32_t)scaled(u[k]);
         lower[k] = (int32_t)scaled(v[k]);
     }
-    lower[leading] = 0;
+    lower[0] = 0;
 }
 
 uint32_t NAME(rotate_narrow)(int32_t *upper, int32_t *lower, int leading)
@@ -59,6 +60,6 @@ uint32_t NAME(rotate_narrow)(int32_t *upper, int32_t *lower, int leading)
     if (!is_small(upper, lower, leading)) {
         return NAME(rotate_wide)(upper, lower, leading);
     }
-    rotate_small(upper, lower, leading);
+    rotate_small(upper + leading, lower + leading, COLUMNS - leading);
     return 0;
 }

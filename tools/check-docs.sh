@@ -39,7 +39,7 @@ references() {
         path = colon ? substr(text, 1, colon - 1) : text
         name = colon ? substr(text, colon + 1) : ""
         if (!is_path(path)) return 0
-        sub(/^L/, "", name)
+        if (name ~ /^L[0-9]/) name = substr(name, 2)
         printf "%d\t%s\t%s\n", at, path, name
         return name == ""
     }
@@ -137,7 +137,10 @@ for document in README.md CONTRIBUTING.md docs/*.md; do
         meant=$(files "$document" "$path")
         miss="no file $path"
         for found in $meant; do
-            miss="$path has no ${name}"
+            case $name in
+            *[!0-9-]*) miss="$path has no $name" ;;
+            *) miss="$path has no line $name" ;;
+            esac
             if holds "$name" "$found"; then
                 miss=
                 break

@@ -4,7 +4,7 @@ ghost use mathlib.Core.Path.{_≡_};
 ghost use Prim.Native.Nat.{_<_, _≤_, _+_};
 ghost use lib.ListN.{length};
 ghost use Rattle.givens.specs.Rotation.{Rows};
-ghost use Rattle.schedule.specs.Schedule.{rotationAt};
+ghost use Rattle.schedule.specs.Schedule.{schedule, flat, rotationAt};
 ghost use Rattle.engine.specs.Rotations.{workspaceRotated, rotationsMade};
 
 // A rotation of the workspace: the part that begins at its upper row is rotated. Answers its saturations.
@@ -18,12 +18,12 @@ fn rotate_workspace(t: Rotation, workspace: &mut [i32]) -> usize
     givens::rotate(&mut workspace[start..], column, gap)
 }
 
-// Rotation number n of the workspace; answers its saturations.
-fn make_rotation(n: usize, workspace: &mut [i32]) -> usize
-    requires { ⌜ (n < 120) × (512 ≤ length (now workspace)) ⌝ }
+// Rotation number n of the workspace, by the schedule's table; answers its saturations.
+fn make_rotation(table: &[usize; 360], n: usize, workspace: &mut [i32]) -> usize
+    requires { ⌜ (now table ≡ flat schedule) × (n < 120) × (512 ≤ length (now workspace)) ⌝ }
     ensures { λ r. ⌜ record { words = now (workspace .exit); saturations = r } ≡ workspaceRotated (rotationAt n) (now (workspace .entry)) ⌝ }
 {
-    let t = schedule::rotation_at(n);
+    let t = schedule::rotation_at(table, n);
     rotate_workspace(t, workspace)
 }
 
@@ -32,9 +32,10 @@ pub(crate) fn make_rotations(n: usize, count: usize, workspace: &mut [i32]) -> u
     requires { ⌜ (n + count ≤ 120) × (512 ≤ length (now workspace)) ⌝ }
     ensures { λ r. ⌜ record { words = now (workspace .exit); saturations = r } ≡ rotationsMade n count (now (workspace .entry)) ⌝ }
 {
+    let table = schedule::table();
     let mut saturations: usize = 0;
     for k in 0..count {
-        saturations += make_rotation(n + k, workspace);
+        saturations += make_rotation(&table, n + k, workspace);
     }
     saturations as u32
 }

@@ -1,3 +1,3 @@
 -- The table, and what follows from the order of the rotations alone.
-pub mod Table
+pub mod Flat
 pub mod Clear

@@ -63,3 +63,8 @@ noRotation = record { column = 0; upper = 0; lower = 0 }
 -- rotation number n
 unfoldable pub rotationAt : ℕ → Rotation
 rotationAt n = getD schedule n noRotation
+
+-- rotations laid out as numbers: column, upper row and lower row of each
+unfoldable pub flat : List Rotation → List ℕ
+flat [] = []
+flat (t ∷ ts) = t .column ∷ t .upper ∷ t .lower ∷ flat ts

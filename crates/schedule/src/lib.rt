@@ -1,7 +1,7 @@
 // The schedule (document 01's tree order): column, upper row and lower row of each of the 120 rotations, and the lookup of one.
 ghost use mathlib.Core.Path.{_≡_};
 ghost use Prim.Native.Nat.{_<_};
-ghost use Rattle.schedule.specs.Schedule.{rotationAt};
+ghost use Rattle.schedule.specs.Schedule.{schedule, flat, rotationAt};
 
 // A rotation's leading column and its two rows.
 pub struct Rotation {
@@ -374,15 +374,25 @@ const ROTATIONS: [usize; 360] = [
     15, // rotation 119
 ];
 
-// Rotation number n.
-pub fn rotation_at(n: usize) -> Rotation
-    requires { ⌜ n < 120 ⌝ }
+// The table. Whoever looks up many rotations takes it once, since a constant is laid out anew wherever it is read.
+pub fn table() -> [usize; 360]
+    ensures { λ r. ⌜ r ≡ flat schedule ⌝ }
+{
+    ROTATIONS
+}
+
+// Rotation number n of the table.
+pub fn rotation_at(table: &[usize; 360], n: usize) -> Rotation
+    requires { ⌜ (now table ≡ flat schedule) × (n < 120) ⌝ }
     ensures { λ r. ⌜ r ≡ rotationAt n ⌝ }
 {
     let at = 3 * n;
+    let column = table[at];
+    let upper = table[at + 1];
+    let lower = table[at + 2];
     Rotation {
-        column: ROTATIONS[at],
-        upper: ROTATIONS[at + 1],
-        lower: ROTATIONS[at + 2],
+        column,
+        upper,
+        lower,
     }
 }

@@ -1,65 +1,52 @@
--- `schedule::rotation_at` meets its contract: one test over the whole table, and its rule at the rotation's three numbers.
--- Assumes nothing.
-use mathlib.Core.List.{List, [], _∷_}
-use Prim.Native.Nat.{ℕ}
+-- `rotation_at` meets its contract: the schedule's rotation stands at the three numbers. Assumes nothing.
 use borrow.Author.Needs.{needs}
-use Rattle.integers.proofs.Claim.{Means, sound}
-use Rattle.schedule.specs.Schedule.{stageRotations, survivors, stages, upFrom, columnStages, stagesRotations, columnsRotations, schedule}
-use Rattle.schedule.proofs.Table.{equal, flat, read-rotation}
+use Rattle.schedule.proofs.Flat.{read-rotation}
 use Rattle.schedule.proofs.rotation_at.Statement.{statement}
 use Rattle.schedule.proofs.rotation_at.Tie as tie
-
--- the numbers of the constant table
-abbrev table : List ℕ
-table =
-    0 ∷ 0 ∷ 1 ∷ 0 ∷ 2 ∷ 3 ∷ 0 ∷ 4 ∷ 5 ∷ 0 ∷ 6 ∷ 7 ∷ 0 ∷ 8 ∷ 9 ∷ 0 ∷ 10 ∷ 11 ∷ 0 ∷ 12 ∷ 13 ∷ 0 ∷ 14 ∷ 15 ∷ 0 ∷ 0 ∷ 2 ∷ 0 ∷ 4 ∷ 6 ∷
-    0 ∷ 8 ∷ 10 ∷ 0 ∷ 12 ∷ 14 ∷ 0 ∷ 0 ∷ 4 ∷ 0 ∷ 8 ∷ 12 ∷ 0 ∷ 0 ∷ 8 ∷ 1 ∷ 1 ∷ 2 ∷ 1 ∷ 3 ∷ 4 ∷ 1 ∷ 5 ∷ 6 ∷ 1 ∷ 7 ∷ 8 ∷ 1 ∷ 9 ∷ 10 ∷
-    1 ∷ 11 ∷ 12 ∷ 1 ∷ 13 ∷ 14 ∷ 1 ∷ 1 ∷ 3 ∷ 1 ∷ 5 ∷ 7 ∷ 1 ∷ 9 ∷ 11 ∷ 1 ∷ 13 ∷ 15 ∷ 1 ∷ 1 ∷ 5 ∷ 1 ∷ 9 ∷ 13 ∷ 1 ∷ 1 ∷ 9 ∷ 2 ∷ 2 ∷ 3 ∷
-    2 ∷ 4 ∷ 5 ∷ 2 ∷ 6 ∷ 7 ∷ 2 ∷ 8 ∷ 9 ∷ 2 ∷ 10 ∷ 11 ∷ 2 ∷ 12 ∷ 13 ∷ 2 ∷ 14 ∷ 15 ∷ 2 ∷ 2 ∷ 4 ∷ 2 ∷ 6 ∷ 8 ∷ 2 ∷ 10 ∷ 12 ∷ 2 ∷ 2 ∷ 6 ∷
-    2 ∷ 10 ∷ 14 ∷ 2 ∷ 2 ∷ 10 ∷ 3 ∷ 3 ∷ 4 ∷ 3 ∷ 5 ∷ 6 ∷ 3 ∷ 7 ∷ 8 ∷ 3 ∷ 9 ∷ 10 ∷ 3 ∷ 11 ∷ 12 ∷ 3 ∷ 13 ∷ 14 ∷ 3 ∷ 3 ∷ 5 ∷ 3 ∷ 7 ∷ 9 ∷
-    3 ∷ 11 ∷ 13 ∷ 3 ∷ 3 ∷ 7 ∷ 3 ∷ 11 ∷ 15 ∷ 3 ∷ 3 ∷ 11 ∷ 4 ∷ 4 ∷ 5 ∷ 4 ∷ 6 ∷ 7 ∷ 4 ∷ 8 ∷ 9 ∷ 4 ∷ 10 ∷ 11 ∷ 4 ∷ 12 ∷ 13 ∷ 4 ∷ 14 ∷ 15 ∷
-    4 ∷ 4 ∷ 6 ∷ 4 ∷ 8 ∷ 10 ∷ 4 ∷ 12 ∷ 14 ∷ 4 ∷ 4 ∷ 8 ∷ 4 ∷ 4 ∷ 12 ∷ 5 ∷ 5 ∷ 6 ∷ 5 ∷ 7 ∷ 8 ∷ 5 ∷ 9 ∷ 10 ∷ 5 ∷ 11 ∷ 12 ∷ 5 ∷ 13 ∷ 14 ∷
-    5 ∷ 5 ∷ 7 ∷ 5 ∷ 9 ∷ 11 ∷ 5 ∷ 13 ∷ 15 ∷ 5 ∷ 5 ∷ 9 ∷ 5 ∷ 5 ∷ 13 ∷ 6 ∷ 6 ∷ 7 ∷ 6 ∷ 8 ∷ 9 ∷ 6 ∷ 10 ∷ 11 ∷ 6 ∷ 12 ∷ 13 ∷ 6 ∷ 14 ∷ 15 ∷
-    6 ∷ 6 ∷ 8 ∷ 6 ∷ 10 ∷ 12 ∷ 6 ∷ 6 ∷ 10 ∷ 6 ∷ 6 ∷ 14 ∷ 7 ∷ 7 ∷ 8 ∷ 7 ∷ 9 ∷ 10 ∷ 7 ∷ 11 ∷ 12 ∷ 7 ∷ 13 ∷ 14 ∷ 7 ∷ 7 ∷ 9 ∷ 7 ∷ 11 ∷ 13 ∷
-    7 ∷ 7 ∷ 11 ∷ 7 ∷ 7 ∷ 15 ∷ 8 ∷ 8 ∷ 9 ∷ 8 ∷ 10 ∷ 11 ∷ 8 ∷ 12 ∷ 13 ∷ 8 ∷ 14 ∷ 15 ∷ 8 ∷ 8 ∷ 10 ∷ 8 ∷ 12 ∷ 14 ∷ 8 ∷ 8 ∷ 12 ∷ 9 ∷ 9 ∷ 10 ∷
-    9 ∷ 11 ∷ 12 ∷ 9 ∷ 13 ∷ 14 ∷ 9 ∷ 9 ∷ 11 ∷ 9 ∷ 13 ∷ 15 ∷ 9 ∷ 9 ∷ 13 ∷ 10 ∷ 10 ∷ 11 ∷ 10 ∷ 12 ∷ 13 ∷ 10 ∷ 14 ∷ 15 ∷ 10 ∷ 10 ∷ 12 ∷ 10 ∷ 10 ∷ 14 ∷
-    11 ∷ 11 ∷ 12 ∷ 11 ∷ 13 ∷ 14 ∷ 11 ∷ 11 ∷ 13 ∷ 11 ∷ 11 ∷ 15 ∷ 12 ∷ 12 ∷ 13 ∷ 12 ∷ 14 ∷ 15 ∷ 12 ∷ 12 ∷ 14 ∷ 13 ∷ 13 ∷ 14 ∷ 13 ∷ 13 ∷ 15 ∷ 14 ∷ 14 ∷ 15 ∷ []
-
--- the test over the whole table, computed once
-table-is-schedule : Means (equal table (flat schedule))
-unfolding equal flat schedule columnsRotations stagesRotations columnStages stages survivors upFrom stageRotations
-table-is-schedule = sound (equal table (flat schedule)) tt
 
 mul-at : tie.Need-mul-at
 mul-at c = search needs
 
-mul-t4 : tie.Need-mul-t4
-mul-t4 c = search needs
+mul-column : tie.Need-mul-column
+mul-column c = search needs
 
-array-read-t7 : tie.Need-array-read-t7
-array-read-t7 c = search needs
+element-copy-out-column : tie.Need-element-copy-out-column
+element-copy-out-column c = search needs
 
-add-t9 : tie.Need-add-t9
-add-t9 c = search needs
+add-upper : tie.Need-add-upper
+add-upper c = search needs
 
-mul-t10 : tie.Need-mul-t10
-mul-t10 c = search needs
+mul-upper : tie.Need-mul-upper
+mul-upper c = search needs
 
-array-read-t13 : tie.Need-array-read-t13
-array-read-t13 c = search needs
+element-copy-out-upper : tie.Need-element-copy-out-upper
+element-copy-out-upper c = search needs
 
-add-t15 : tie.Need-add-t15
-add-t15 c = search needs
+add-lower : tie.Need-add-lower
+add-lower c = search needs
 
-mul-t16 : tie.Need-mul-t16
-mul-t16 c = search needs
+mul-lower : tie.Need-mul-lower
+mul-lower c = search needs
 
-array-read-t19 : tie.Need-array-read-t19
-array-read-t19 c = search needs
+element-copy-out-lower : tie.Need-element-copy-out-lower
+element-copy-out-lower c = search needs
 
 returns : tie.Need-returns
-returns c = read-rotation table table-is-schedule (c .args .n)
+returns c =
+    let s = c .before .before .before in
+    rw (s .pre .0) (read-rotation (s .args .n))
 
 pub rotation-at-spec : {M : Type 1} → statement M
 rotation-at-spec =
-    tie.close (tie.spec mul-at mul-t4 array-read-t7 add-t9 mul-t10 array-read-t13 add-t15 mul-t16 array-read-t19 returns)
+    tie.close
+    (tie.spec
+    mul-at
+    mul-column
+    element-copy-out-column
+    add-upper
+    mul-upper
+    element-copy-out-upper
+    add-lower
+    mul-lower
+    element-copy-out-lower
+    returns)

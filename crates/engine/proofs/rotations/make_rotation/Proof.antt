@@ -18,8 +18,8 @@ shape n h t e = let s = rotation-shape n h in rw e (omega arith, s .1, s .2)
 rotate-workspace-requires : tie.Need-rotate-workspace-requires
 rotate-workspace-requires c κs =
     let d = c .before in
-    let s = shape (d .before .args .n) (d .before .pre .0) (d .rotation-at .result) (d .rotation-at .ensures) in
-    (s .0, s .1, s .2, d .before .pre .1)
+    let s = shape (d .before .args .n) (d .before .pre .1) (d .rotation-at .result) (d .rotation-at .ensures) in
+    (s .0, s .1, s .2, d .before .pre .2)
 
 same-length : tie.Need-same-length
 same-length c = search needs

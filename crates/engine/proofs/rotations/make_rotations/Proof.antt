@@ -11,11 +11,14 @@ use Rattle.engine.proofs.rotations.make_rotations.Statement.{statement}
 use Rattle.engine.proofs.rotations.make_rotations.Tie as tie
 
 abbrev Inv-loop : tie.InvT-loop
-Inv-loop n count workspace₀ saturations₀ k₀ workspace saturations k =
+Inv-loop n count workspace₀ table saturations₀ k₀ workspace saturations k =
     (k ≤ count) × (length workspace ≡ length workspace₀) × (saturations ≤ 64 * k) × (record { words = workspace; saturations = saturations } ≡ rotationsMade n k workspace₀)
 
 abbrev μ-loop : tie.MeasureT-loop
-μ-loop n count workspace₀ saturations₀ k₀ workspace saturations k = count - k
+μ-loop n count workspace₀ table saturations₀ k₀ workspace saturations k = count - k
+
+table-requires : tie.Need-table-requires Inv-loop μ-loop
+table-requires c κs = tt
 
 loop-holds : tie.Need-loop-holds Inv-loop μ-loop
 unfolding rotationsMade
@@ -25,7 +28,7 @@ add-make-rotation : tie.Need-add-make-rotation Inv-loop μ-loop
 add-make-rotation c = omega arith
 
 make-rotation-requires : tie.Need-make-rotation-requires Inv-loop μ-loop
-make-rotation-requires c κs = omega arith
+make-rotation-requires c κs = (c .before .before .before .before .table .ensures, omega arith, omega arith)
 
 add-saturations : tie.Need-add-saturations Inv-loop μ-loop
 add-saturations c = omega (arith, rotation-few _ _ _ (c .before .make-rotation .ensures))
@@ -39,10 +42,10 @@ loop-less c = omega arith
 loop-again : tie.Need-loop-again Inv-loop μ-loop
 unfolding rotationsMade
 loop-again c =
-    let l = c .before .before .before .before .loop in
+    let l = c .before .before .before .before .before .loop in
     let t = c .before .make-rotation in (
       omega arith,
-      t .kept .1 .0 ∙ l .inv .1,
+      t .kept .1 .1 .0 ∙ l .inv .1,
       omega (arith, rotation-few _ _ _ (t .ensures)),
       rw (add-one, ← (l .inv .3), ← (t .ensures)),
     )
@@ -55,7 +58,7 @@ same-length c = c .before .loop .inv .1
 
 returns : tie.Need-returns Inv-loop μ-loop
 returns c =
-    let e : c .before .loop .k ≡ c .before .before .args .count = omega arith in
+    let e : c .before .loop .k ≡ c .before .before .before .args .count = omega arith in
     rw e at (c .before .loop .inv .3)
 
 pub make-rotations-spec : {M : Type 1} → statement M
@@ -64,6 +67,7 @@ make-rotations-spec =
     (tie.spec
     Inv-loop
     μ-loop
+    table-requires
     loop-holds
     add-make-rotation
     make-rotation-requires
