@@ -4,10 +4,11 @@ use mathlib.Core.Path.{_≡_, refl, ap, ap₂, _∙_}
 use mathlib.Core.List.{List, [], _∷_}
 use Prim.Native.Nat.{ℕ, zero, suc, _+_, _*_}
 use native.Mathlib.Omega.{arith}
+use lib.Dec.{T}
 use lib.ListN.{getD}
 use Rattle.schedule.specs.declared.Rotation.{Rotation}
 use Rattle.schedule.specs.Schedule.{schedule, flat, noRotation, rotationAt}
-use Rattle.integers.proofs.Claim.{Claim, always, never, same, both, Means}
+use Rattle.integers.proofs.Claim.{Claim, always, never, same, both, Means, test, sound}
 
 -- ---- the law: two lists of which the claim holds are equal
 
@@ -17,12 +18,16 @@ equal [] (y ∷ ys) = never
 equal (x ∷ xs) [] = never
 equal (x ∷ xs) (y ∷ ys) = both (same x y) (equal xs ys)
 
-pub equal-is : (xs ys : List ℕ) → Means (equal xs ys) → xs ≡ ys
+equal-is : (xs ys : List ℕ) → Means (equal xs ys) → xs ≡ ys
 unfolding equal
 equal-is [] [] p = refl
 equal-is [] (y ∷ ys) p = absurd p
 equal-is (x ∷ xs) [] p = absurd p
 equal-is (x ∷ xs) (y ∷ ys) p = ap₂ _∷_ (p .0) (equal-is xs ys (p .1))
+
+-- so the computed test makes them equal
+pub tested : (xs ys : List ℕ) → T (test (equal xs ys)) → xs ≡ ys
+tested xs ys t = equal-is xs ys (sound (equal xs ys) t)
 
 -- ---- rotations laid out as numbers
 
