@@ -6,13 +6,16 @@
 //! lent words in, works on its copy and copies the outcome back.
 //!
 //! [`calls`] has the five calls, [`accuracy`] the exact errors of a worked matrix, and [`cases`]
-//! and [`random`] the test matrices.
+//! and [`random`] the test matrices. [`listing`] and [`program`] say what the programs have to
+//! write.
 
 pub mod accuracy;
 pub mod area;
 pub mod calls;
 pub mod cases;
+pub mod listing;
 pub mod matrix;
+pub mod program;
 pub mod random;
 pub mod records;
 pub mod replies;

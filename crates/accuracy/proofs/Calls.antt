@@ -9,7 +9,7 @@ use lib.IntN.{ℤ}
 use lib.ListN.{length, drop}
 use Rattle.lists.specs.Lists.{filled}
 use Rattle.schedule.specs.Schedule.{rotationAt}
-use Rattle.records.specs.Matrix.{realEntry}
+use Rattle.records.specs.Matrix.{realEntry, loadedWords}
 use Rattle.records.specs.Result.{R, Q, resultByte, resultRecord}
 use Rattle.engine.specs.Rotations.{workspaceRotated, rotationsMade}
 use Rattle.engine.specs.Load.{loadOf, loadBy}
@@ -19,7 +19,7 @@ use Rattle.engine.specs.declared.run.RunAnswer.the-variants.{Refused}
 use Rattle.engine.proofs.Tests.{load-accepted, fetch-accepted, fetch-passes}
 use Rattle.accuracy.specs.Demand3.{Lent, loaded, other, RunCall, FetchCall, Call, run, fetch, State, wordsOf, leftIn, ran, reply, fetched, refusal, Accepted, InStep, moved, after, afterAll, Load, start, Place, Point, found, reached, EachInStep, Factored, workspaceAfter, Demand3}
 use Rattle.accuracy.proofs.Rotations.{after-none, after-length, after-more, made-unsaturated, more-unsaturated}
-use Rattle.accuracy.proofs.Loading.{loadedWords, loaded-room, loaded-short, loaded-factored}
+use Rattle.accuracy.proofs.Loading.{loaded-room, loaded-short, loaded-factored}
 use Rattle.accuracy.proofs.Finished.{finished}
 
 -- ---- a Run is refused, or it is accepted
@@ -38,7 +38,7 @@ first l = loadedWords (l .bytes) (l .lent)
 
 module _ (l : Load) where
   pub start-is : start l ≡ record { workspace = first l; next = 0; granted = 0 }
-  unfolding start loadedWords loadOf loadBy
+  unfolding start loadOf loadBy
   start-is = rw (l .accepted)
 
   lent-room : 512 ≤ length (l .lent)

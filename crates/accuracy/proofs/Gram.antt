@@ -19,33 +19,34 @@ use Rattle.integers.proofs.Sum.{sum-equal, others, sum-others, others-equal, to
 use Rattle.integers.proofs.Claim.{both, Means, each-at}
 use Rattle.schedule.specs.declared.Rotation.{Rotation}
 use Rattle.schedule.specs.Schedule.{rotationAt}
-use Rattle.accuracy.proofs.Grid.{Grid, gram, pair, pairNorm, Rotated}
+use Rattle.records.specs.Result.{Matrix}
+use Rattle.accuracy.proofs.Grid.{gram, pair, pairNorm, Rotated}
 use Rattle.schedule.proofs.Clear.{elsewhere, apart, allApart, cleared, raised, fits, done, done-none, done-next, next-fits, rotation-shape, diagonal-raised, below-cleared}
 
 -- ---- a column's squared length
 
-norm-total : (W : Grid) (a : ℕ) → natAbs (gram W a a) ≡ total 16 (λ r. square (W r a))
+norm-total : (W : Matrix) (a : ℕ) → natAbs (gram W a a) ≡ total 16 (λ r. square (W r a))
 norm-total W a = ap natAbs (sum-equal 16 (λ r q. square-is (W r a)) ∙ sum-total 16 (λ r. square (W r a)))
 
 -- it bounds the part of two rows
-pair-norm : (W : Grid) (u l a : ℕ) → u < l → l < 16 → pairNorm W u l a ≤ natAbs (gram W a a)
+pair-norm : (W : Matrix) (u l a : ℕ) → u < l → l < 16 → pairNorm W u l a ≤ natAbs (gram W a a)
 pair-norm W u l a h k = le-trans (two-of-total 16 (λ r. square (W r a)) u l h k) (le-of-eq (sym (norm-total W a)))
 
-pair-comm : (W : Grid) (u l a b : ℕ) → pair W u l a b ≡ pair W u l b a
+pair-comm : (W : Matrix) (u l a b : ℕ) → pair W u l a b ≡ pair W u l b a
 pair-comm W u l a b = ap (λ x. x +ℤ W l a *ℤ W l b) (*ℤ-comm (W u a) (W u b)) ∙ ap (λ x. W u b *ℤ W u a +ℤ x) (*ℤ-comm (W l a) (W l b))
 
-pair-zero : (W : Grid) (u l a b : ℕ) → W u a ≡ pos 0 → W l a ≡ pos 0 → pair W u l a b ≡ pos 0
+pair-zero : (W : Matrix) (u l a b : ℕ) → W u a ≡ pos 0 → W l a ≡ pos 0 → pair W u l a b ≡ pos 0
 pair-zero W u l a b p q =
     ap (λ x. x *ℤ W u b +ℤ W l a *ℤ W l b) p ∙ ap (λ x. pos 0 *ℤ W u b +ℤ x *ℤ W l b) q
     ∙ ap (λ x. x +ℤ pos 0 *ℤ W l b) (zero-*ℤ (W u b)) ∙ ap (λ x. pos 0 +ℤ x) (zero-*ℤ (W l b))
 
 -- ---- what the rotations made leave: zeros where they cleared, and upper leading words that are not negative
 
-Left : Grid → List Rotation → Type 0
+Left : Matrix → List Rotation → Type 0
 Left W [] = Unit {0}
 Left W (d ∷ ds) = (W (d .lower) (d .column) ≡ pos 0) × (pos 0 ≤ℤ W (d .upper) (d .column)) × Left W ds
 
-zero-at : (W : Grid) (ds : List Rotation) → Left W ds → (r c : ℕ) → Means (cleared ds r c) → W r c ≡ pos 0
+zero-at : (W : Matrix) (ds : List Rotation) → Left W ds → (r c : ℕ) → Means (cleared ds r c) → W r c ≡ pos 0
 unfolding Left cleared
 zero-at W [] z r c m = absurd m
 zero-at W (d ∷ ds) z r c m = pick m (zero-at W ds (z .2) r c)
@@ -54,7 +55,7 @@ zero-at W (d ∷ ds) z r c m = pick m (zero-at W ds (z .2) r c)
     pick (inl e) ih = subst₂ (λ (x y : ℕ). W x y ≡ pos 0) (e .0) (e .1) (z .0)
     pick (inr m) ih = ih m
 
-nonneg-at : (W : Grid) (ds : List Rotation) → Left W ds → (r c : ℕ) → Means (raised ds r c) → pos 0 ≤ℤ W r c
+nonneg-at : (W : Matrix) (ds : List Rotation) → Left W ds → (r c : ℕ) → Means (raised ds r c) → pos 0 ≤ℤ W r c
 unfolding Left raised
 nonneg-at W [] z r c m = absurd m
 nonneg-at W (d ∷ ds) z r c m = pick m (nonneg-at W ds (z .2) r c)
@@ -65,7 +66,7 @@ nonneg-at W (d ∷ ds) z r c m = pick m (nonneg-at W ds (z .2) r c)
 
 -- ---- one rotation
 
-module _ (t : Rotation) (W W′ : Grid) (rotated : Rotated t W W′) where
+module _ (t : Rotation) (W W′ : Matrix) (rotated : Rotated t W W′) where
   -- a zero stays: its column is an earlier one, or its row another
   zero-kept : (d : Rotation) → Means (apart d t) → W (d .lower) (d .column) ≡ pos 0 → W′ (d .lower) (d .column) ≡ pos 0
   zero-kept d m z = pick (m .1)
@@ -159,7 +160,7 @@ module _ (t : Rotation) (W W′ : Grid) (rotated : Rotated t W W′) where
 
 -- ---- all rotations: W k is the workspace after rotations 0 to k - 1
 
-module _ (W : ℕ → Grid)
+module _ (W : ℕ → Matrix)
     (rotated : (k : ℕ) → k < 120 → Rotated (rotationAt k) (W k) (W (suc k)))
     (start : (a : ℕ) → a < 32 → natAbs (gram (W 0) a a) ≤ 2 ^ 60) where
   -- what holds after k rotations

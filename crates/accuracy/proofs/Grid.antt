@@ -1,36 +1,31 @@
--- The workspace as a function of row and column, the Gram sums of its columns, what a rotation keeps of them, and what an accurate result is.
+-- The Gram sums of the columns of a workspace, which is a function of row and column here, and what a rotation keeps of them.
 -- Assumes nothing.
 use mathlib.Core.Path.{_≡_}
 use mathlib.Core.Logic.{_≢_}
-use mathlib.Core.Bool.{cond}
 use Prim.Native.Nat.{ℕ, _+_, _*_, _^_, _≤_, _<_}
-use lib.IntN.{ℤ, pos, natAbs, _+ℤ_, _-ℤ_, _*ℤ_}
+use lib.IntN.{ℤ, pos, _+ℤ_, _-ℤ_, _*ℤ_}
 use lib.Signed.{_≤ℤ_}
-use lib.Dec.{ltb, eqb}
 use Rattle.cordic.specs.Norm.{normBound}
 use Rattle.integers.specs.Within.{Within}
 use Rattle.integers.specs.Sum.{sum}
 use Rattle.integers.specs.Square.{square}
 use Rattle.schedule.specs.declared.Rotation.{Rotation}
-
--- row, then column
-abbrev pub Grid : Type 0
-Grid = ℕ → ℕ → ℤ
+use Rattle.records.specs.Result.{Matrix}
 
 -- the Gram sum of columns a and b: the sum of their products over the 16 rows
-abbrev pub gram : Grid → ℕ → ℕ → ℤ
+abbrev pub gram : Matrix → ℕ → ℕ → ℤ
 gram W a b = sum 16 (λ r. W r a *ℤ W r b)
 
 -- the part of it that two rows hold
-abbrev pub pair : Grid → ℕ → ℕ → ℕ → ℕ → ℤ
+abbrev pub pair : Matrix → ℕ → ℕ → ℕ → ℕ → ℤ
 pair W u l a b = W u a *ℤ W u b +ℤ W l a *ℤ W l b
 
 -- the squared length of column a in two rows
-abbrev pub pairNorm : Grid → ℕ → ℕ → ℕ → ℕ
+abbrev pub pairNorm : Matrix → ℕ → ℕ → ℕ → ℕ
 pairNorm W u l a = square (W u a) + square (W l a)
 
 -- what is asked of a rotation t that takes the workspace W to W′
-pub record Rotated (t : Rotation) (W W′ : Grid) : Type 0 where
+pub record Rotated (t : Rotation) (W W′ : Matrix) : Type 0 where
   -- other rows, and the columns before the leading one, stay
   pub other-row : (r c : ℕ) → r < 16 → c < 32 → r ≢ t .upper → r ≢ t .lower → W′ r c ≡ W r c
   pub other-column : (r c : ℕ) → r < 16 → c < t .column → W′ r c ≡ W r c
@@ -41,11 +36,3 @@ pub record Rotated (t : Rotation) (W W′ : Grid) : Type 0 where
   pub pair-kept : (a b : ℕ) → t .column ≤ a → a < 32 → t .column ≤ b → b < 32
       → pairNorm W (t .upper) (t .lower) a ≤ normBound → pairNorm W (t .upper) (t .lower) b ≤ normBound
       → Within (pair W′ (t .upper) (t .lower) a b -ℤ pair W (t .upper) (t .lower) a b) (2 ^ 37)
-
--- the loaded workspace: 2^13 times the matrix, and beside it 2^30 times the identity
-unfoldable pub loaded : Grid → Grid
-loaded A r c = cond (ltb c 16) (A r c *ℤ pos (2 ^ 13)) (cond (eqb c (r + 16)) (pos (2 ^ 30)) (pos 0))
-
--- the entries of the matrix are at most 2^15 in size
-abbrev pub Small : Grid → Type 0
-Small A = (r c : ℕ) → r < 16 → c < 16 → natAbs (A r c) ≤ 2 ^ 15

@@ -4,34 +4,28 @@ use mathlib.Core.List.{List}
 use Prim.Native.Nat.{ℕ, _^_, _≤_, _<_}
 use lib.IntN.{ℤ, natAbs}
 use lib.ListN.{length, getD}
-use Rattle.lists.specs.Lists.{filled}
 use Rattle.lists.proofs.Tabulate.{length-filled}
-use Rattle.records.specs.Matrix.{realEntry, loadedAt, loadedWord}
-use Rattle.records.proofs.LoadLaws.{loaded-at, entry-small}
+use Rattle.records.specs.Matrix.{realEntry, loadedAt, loadedWord, loadedWords}
+use Rattle.records.proofs.LoadLaws.{loaded-at}
 use Rattle.records.specs.Result.{R, Q, wordIn}
 use Rattle.accuracy.proofs.Accurate.{start, accurate}
 use Rattle.accuracy.specs.Demand3.{Factored, workspaceAfter}
-use Rattle.accuracy.proofs.Grid.{gram, loaded}
+use Rattle.accuracy.proofs.Grid.{gram}
 use Rattle.accuracy.proofs.Rotations.{after-none, after-rotated}
-
--- the workspace that Load leaves
-unfoldable pub loadedWords : List ℕ → List ℤ → List ℤ
-loadedWords rec lent = filled 512 (loadedWord rec) lent
 
 module _ (rec : List ℕ) (bytes : (k : ℕ) → getD rec k 0 < 256) (lent : List ℤ) (room : 512 ≤ length lent) where
   pub loaded-room : 512 ≤ length (loadedWords rec lent)
-  unfolding loadedWords
   loaded-room = rw (length-filled 512 (loadedWord rec) lent room) room
 
-  load-at : (r c : ℕ) → r < 16 → c < 32 → wordIn (workspaceAfter (loadedWords rec lent) 0) r c ≡ loaded (realEntry rec) r c
-  unfolding wordIn loadedWords loadedAt loaded
+  load-at : (r c : ℕ) → r < 16 → c < 32 → wordIn (workspaceAfter (loadedWords rec lent) 0) r c ≡ loadedAt rec r c
+  unfolding wordIn
   load-at r c p q = rw (after-none (loadedWords rec lent) loaded-room) (loaded-at rec lent r c p q)
 
   -- every column is short at the start
   pub loaded-short : (a : ℕ) → a < 32 → natAbs (gram (wordIn (workspaceAfter (loadedWords rec lent) 0)) a a) ≤ 2 ^ 60
-  loaded-short = start (realEntry rec) (λ r c p q. entry-small rec bytes r c) (λ (k : ℕ). wordIn (workspaceAfter (loadedWords rec lent) k)) load-at (after-rotated (loadedWords rec lent) loaded-room)
+  loaded-short = start rec bytes (λ (k : ℕ). wordIn (workspaceAfter (loadedWords rec lent) k)) load-at (after-rotated (loadedWords rec lent) loaded-room)
 
   -- and accurate at the end
   pub loaded-factored : Factored (realEntry rec) (R (workspaceAfter (loadedWords rec lent) 120)) (Q (workspaceAfter (loadedWords rec lent) 120))
   unfolding R Q
-  loaded-factored = accurate (realEntry rec) (λ r c p q. entry-small rec bytes r c) (λ (k : ℕ). wordIn (workspaceAfter (loadedWords rec lent) k)) load-at (after-rotated (loadedWords rec lent) loaded-room)
+  loaded-factored = accurate rec bytes (λ (k : ℕ). wordIn (workspaceAfter (loadedWords rec lent) k)) load-at (after-rotated (loadedWords rec lent) loaded-room)

@@ -1,5 +1,5 @@
 -- The premise of demand 3 can be met: for every accepted record by a Run of 120 and a Fetch, which is accepted, with refused calls before, between and
--- after them; a record is accepted, and a record of zeros is refused. Assumes nothing.
+-- after them; Whole accepts it too; and a record is accepted. Assumes nothing.
 use mathlib.Core.Path.{_≡_, refl, sym, ap, _∙_, subst}
 use mathlib.Core.List.{List, [], _∷_, _++_, append-nil}
 use Prim.Native.Nat.{ℕ, zero, suc, _≤_, _<_}
@@ -12,7 +12,8 @@ use Rattle.records.specs.Matrix.{partOf, zeroElement, allZero}
 use Rattle.engine.specs.Rotations.{rotationsMade}
 use Rattle.engine.specs.Load.{loadRefusal}
 use Rattle.engine.specs.Run.{RunOutcome, runMade, runBy, runOf}
-use Rattle.engine.proofs.Tests.{run-accepted, run-passes, fetch-accepted}
+use Rattle.engine.specs.Whole.{wholeRefusal}
+use Rattle.engine.proofs.Tests.{whole-passes, run-accepted, run-passes, fetch-accepted}
 use Rattle.accuracy.specs.Demand3.{loaded, other, Call, run, fetch, State, wordsOf, refusal, Accepted, InStep, moved, after, afterAll, Load, start, EachInStep, wholeRun, wholeFetch}
 use Rattle.accuracy.proofs.Calls.{run-cases, left-same, first, start-is, room, Holds, holds-start, holds-next, fetch-iff}
 
@@ -118,6 +119,10 @@ pub alone : (l : Load) (buffer : List ℕ) → 2049 ≤ length buffer → Possib
 unfolding AllRefused
 alone l buffer space = possible l [] [] [] buffer tt tt tt space
 
+-- and Whole accepts it, with the same buffer
+pub whole-possible : (l : Load) (buffer : List ℕ) → 2049 ≤ length buffer → wholeRefusal (l .bytes) (l .lent) buffer ≡ 0
+whole-possible l buffer space = whole-passes (l .bytes) (l .lent) buffer (l .accepted) space
+
 -- ---- refused calls: a Run past the last turn, a Run on a short workspace, a Fetch before the last turn, a Fetch with a short buffer
 
 unfoldable pub stray : List Call
@@ -157,9 +162,3 @@ some-load = record { bytes = 1 ∷ 0 ∷ 1 ∷ replicate 254 0; lent = replicate
     small (suc zero) = lit< tt
     small (suc (suc zero)) = lit< tt
     small (suc (suc (suc k))) = rw (zeros 254 k) (lit< tt)
-
--- ---- a record of zeros is refused
-
-pub zeros-refused : loadRefusal (1 ∷ replicate 256 0) (replicate 512 (pos 0)) ≡ 4
-unfolding loadRefusal allZero allBelow zeroElement partOf
-zeros-refused = refl

@@ -1,18 +1,18 @@
 -- An accepted Whole is Load, a Run of 120 and a Fetch, so demand 3 holds for it too. Assumes nothing.
-use mathlib.Core.Path.{_≡_, sym, ap, _∙_}
-use mathlib.Core.List.{List, _++_}
+use mathlib.Core.Path.{_≡_, refl, sym, ap, _∙_}
+use mathlib.Core.List.{List, [], _∷_, _++_}
 use Prim.Native.Nat.{ℕ, _≤_}
+use native.Mathlib.Omega.{arith}
 use lib.ListN.{length, drop}
 use Rattle.lists.specs.Lists.{filled}
-use Rattle.records.specs.Matrix.{heardByte}
+use Rattle.records.specs.Matrix.{realEntry, heardByte}
 use Rattle.records.specs.Result.{R, Q, resultRecord}
 use Rattle.engine.specs.Rotations.{rotationsMade}
 use Rattle.engine.specs.Load.{loadOf, loadBy, loadReply}
 use Rattle.engine.specs.Run.{RunOutcome, runMade, runReply}
-use Rattle.engine.specs.Whole.{WholeOutcome, wholeRefusal, wholeDone, wholeBy, wholeOf, wholeReply}
+use Rattle.engine.specs.Whole.{WholeOutcome, wholeRefusal, wholeDone, wholeBy, wholeOf, WholeReply, wholeReply}
 use Rattle.engine.proofs.Tests.{whole-accepted}
-use Rattle.accuracy.specs.Demand3.{State, fetched, afterAll, Load, start, reply, Kept, wholeRun, wholeFetch, wholeCalls, WholeKept, WholeDemand3}
-use Rattle.accuracy.proofs.Loading.{loadedWords}
+use Rattle.accuracy.specs.Demand3.{run, fetch, State, fetched, afterAll, Load, start, reply, Factored, Kept, wholeRun, wholeFetch, wholeCalls, WholeKept, WholeDemand3}
 use Rattle.accuracy.proofs.Calls.{first, start-is, fetch-written, demand3}
 use Rattle.accuracy.proofs.Possible.{ended, ended-is, run-made, fetch-in-step, fetch-taken, alone}
 
@@ -25,11 +25,11 @@ module _ (l : Load) (buffer : List ℕ) (space : 2049 ≤ length buffer) (passed
   whole-is = rw passed
 
   words : wholeOf (l .bytes) (l .lent) buffer .workspace ≡ ended l .workspace
-  unfolding wholeDone loadedWords
+  unfolding wholeDone
   words = ap (λ (o : WholeOutcome). o .workspace) whole-is ∙ sym (ap (λ (s : State). s .workspace) (ended-is l))
 
   written : wholeOf (l .bytes) (l .lent) buffer .buffer ≡ fetched (ended l) (wholeFetch buffer)
-  unfolding wholeDone loadedWords filled resultRecord
+  unfolding wholeDone filled resultRecord
   written =
       ap (λ (o : WholeOutcome). o .buffer) whole-is
       ∙ sym (fetch-written (ended l) (wholeFetch buffer) (fetch-taken l buffer space) (fetch-in-step l buffer)
@@ -44,12 +44,22 @@ module _ (l : Load) (buffer : List ℕ) (space : 2049 ≤ length buffer) (passed
   clamps = ap (λ (s : State). reply s wholeRun .clamps) (start-is l) ∙ ap (λ (o : RunOutcome). runReply 0 (o .answer) .clamps) (run-made l)
 
   answer : wholeReply (wholeOf (l .bytes) (l .lent) buffer .answer) ≡ record { number = 0; heard = loadReply (loadOf (l .bytes) (l .lent) .answer) .heard; clamps = reply (start l) wholeRun .clamps }
-  unfolding wholeDone loadedWords
+  unfolding wholeDone
   answer = ap (λ (o : WholeOutcome). wholeReply (o .answer)) whole-is ∙ rw (heard, clamps)
+
+  no-clamps : wholeReply (wholeOf (l .bytes) (l .lent) buffer .answer) .clamps ≡ 0
+  unfolding afterAll
+  no-clamps = ap (λ (w : WholeReply). w .clamps) answer ∙ kept .no-run-clamps wholeRun (record { before = []; rest = fetch (wholeFetch buffer) ∷ []; is = refl })
+
+  factored : Factored (realEntry (l .bytes)) (R (wholeOf (l .bytes) (l .lent) buffer .workspace)) (Q (wholeOf (l .bytes) (l .lent) buffer .workspace))
+  unfolding afterAll
+  factored =
+      let g : ended l .granted ≡ 120 = ap (λ (s : State). s .granted) (ended-is l) in
+      rw words (kept .factored (record { before = run wholeRun ∷ []; rest = fetch (wholeFetch buffer) ∷ []; is = refl }) (omega (arith, g)))
 
   whole-kept : WholeKept l buffer
   unfolding afterAll
-  whole-kept = record { kept = kept; accepted = fetch-taken l buffer space; answer = answer; words = words; written = written }
+  whole-kept = record { kept = kept; accepted = fetch-taken l buffer space; answer = answer; words = words; written = written; no-clamps = no-clamps; factored = factored }
 
 pub whole-demand3 : WholeDemand3
 whole-demand3 bytes lent buffer small passed =

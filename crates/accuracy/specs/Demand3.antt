@@ -1,5 +1,5 @@
 -- Demand 3, as document 01's "Lists of calls" spells it out: one statement about every list of later calls after an accepted Load. Each call does
--- what its own definition says (`loadOf`, `runOf`, `fetchOf`, `wholeOf`), which the contracts of the calls equate the code with. Assumes nothing.
+-- what its own definition says (`loadOf`, `runOf`, `fetchOf`, `wholeOf`), which the contracts of the calls equate the code with. The proofs rest on no axiom.
 use mathlib.Core.Path.{_≡_}
 use mathlib.Core.Logic.{_↔_}
 use mathlib.Core.Bool.{cond}
@@ -35,6 +35,7 @@ pub record RunCall : Type 0 where
   pub budget : ℕ
   pub lent : Lent
 
+-- a Fetch: the turn number that it is handed, what it is lent, and the buffer as it is handed over
 pub record FetchCall : Type 0 where
   pub next : ℕ
   pub lent : Lent
@@ -104,6 +105,7 @@ abbrev pub moved : State → RunCall → List ℤ → RunAnswer → State
 moved s r l (Made next made clamps) = record { workspace = leftIn s (r .lent) l; next = next; granted = s .granted + r .budget }
 moved s r l (Refused number) = record { workspace = leftIn s (r .lent) l; next = s .next; granted = s .granted }
 
+-- a Fetch is lent the workspace to read only, and has its own buffer
 abbrev pub after : State → Call → State
 after s (run r) = moved s r (ran s r .workspace) (ran s r .answer)
 after s (fetch f) = s
@@ -117,7 +119,9 @@ afterAll s (c ∷ calls) = afterAll (after s c) calls
 pub record Load : Type 0 where
   pub bytes : List ℕ
   pub lent : List ℤ
+  -- each of them is a byte
   pub small : (k : ℕ) → getD bytes k 0 < 256
+  -- none of Load's tests fails
   pub accepted : loadRefusal bytes lent ≡ 0
 
 unfoldable pub start : Load → State
@@ -210,6 +214,9 @@ pub record WholeKept (l : Load) (buffer : List ℕ) : Type 0 where
       ≡ record { number = 0; heard = loadReply (loadOf (l .bytes) (l .lent) .answer) .heard; clamps = reply (start l) wholeRun .clamps }
   pub words : wholeOf (l .bytes) (l .lent) buffer .workspace ≡ afterAll (start l) (wholeCalls buffer) .workspace
   pub written : wholeOf (l .bytes) (l .lent) buffer .buffer ≡ fetched (after (start l) (run wholeRun)) (wholeFetch buffer)
+  -- so all of demand 3 holds of what Whole leaves: no word is clamped, and the matrix is worked to the end
+  pub no-clamps : wholeReply (wholeOf (l .bytes) (l .lent) buffer .answer) .clamps ≡ 0
+  pub factored : Factored (realEntry (l .bytes)) (R (wholeOf (l .bytes) (l .lent) buffer .workspace)) (Q (wholeOf (l .bytes) (l .lent) buffer .workspace))
 
 abbrev pub WholeDemand3 : Type 0
 WholeDemand3 = (bytes : List ℕ) (lent : List ℤ) (buffer : List ℕ) (small : (k : ℕ) → getD bytes k 0 < 256) → wholeRefusal bytes lent buffer ≡ 0

@@ -20,7 +20,7 @@ use Rattle.cordic.specs.MicroRotation.{oriented, microRotations, sign, o
 use Rattle.integers.specs.Within.{Within}
 use Rattle.integers.proofs.Within.{within-*, within-neg, within-pos, within-as, within-trans, within-le}
 use Rattle.integers.proofs.Ring.{con, neg, _⊕_, _⊝_, _⊗_, _≐_, ring}
-use Rattle.cordic.proofs.Telescope.{Kept, kept-steps, near-small}
+use Rattle.cordic.proofs.Telescope.{StepsKept, kept-steps, near-small}
 use Rattle.cordic.proofs.Residue.{Lead, lead-last, lead-rest}
 use Rattle.cordic.proofs.Scale.{scaledPair, scaled-small, scaled-rest, scaled-dot, dot-small}
 
@@ -60,7 +60,7 @@ module _ (l : Pair) where
   orient-start : (c : Pair) → Within (dot c c) normBound → Within (dot (orient negate c) (orient negate c)) normBound
   orient-start c h = subst (λ x. Within x normBound) (sym (orient-dot negate c c)) h
 
-  rotated-kept : (c d : Pair) → Within (dot c c) normBound → Within (dot d d) normBound → Kept (orient negate c) (orient negate d) 28 (microRotated l c) (microRotated l d)
+  rotated-kept : (c d : Pair) → Within (dot c c) normBound → Within (dot d d) normBound → StepsKept (orient negate c) (orient negate d) 28 (microRotated l c) (microRotated l d)
   unfolding negate
   rotated-kept c d nc nd = kept-steps (orient negate c) (orient negate d) (orient-start c nc) (orient-start d nd) (sign (orient negate l)) 28 (le-refl 28)
 

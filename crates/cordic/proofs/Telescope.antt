@@ -105,16 +105,16 @@ near-small i c₀ c h n k = squares-small most c (within (le-of-mul-le-mul-left 
 -- ---- the micro-rotations in a row
 
 -- what holds of two columns after i of them
-pub record Kept (c₀ d₀ : Pair) (i : ℕ) (c d : Pair) : Type 0 where
+pub record StepsKept (c₀ d₀ : Pair) (i : ℕ) (c d : Pair) : Type 0 where
   pub cc : Near crude i (dot c₀ c₀) (dot c c)
   pub dd : Near crude i (dot d₀ d₀) (dot d d)
   pub cd : Near sharp i (dot c₀ d₀) (dot c d)
 
 module _ (c₀ d₀ : Pair) (nc : Within (dot c₀ c₀) normBound) (nd : Within (dot d₀ d₀) normBound) where
-  pub kept-start : Kept c₀ d₀ 0 c₀ d₀
+  pub kept-start : StepsKept c₀ d₀ 0 c₀ d₀
   kept-start = record { cc = near-start crude (dot c₀ c₀); dd = near-start crude (dot d₀ d₀); cd = near-start sharp (dot c₀ d₀) }
 
-  pub kept-step : (σ : Bool) (i : ℕ) (c d : Pair) → i < 28 → Kept c₀ d₀ i c d → Kept c₀ d₀ (suc i) (microRotation i σ c) (microRotation i σ d)
+  pub kept-step : (σ : Bool) (i : ℕ) (c d : Pair) → i < 28 → StepsKept c₀ d₀ i c d → StepsKept c₀ d₀ (suc i) (microRotation i σ c) (microRotation i σ d)
   kept-step σ i c d h k =
       let c2 = step-small σ i most c (near-small i c₀ c (le-of-lt h) nc (k .cc)) in
       let d2 = step-small σ i most d (near-small i d₀ d (le-of-lt h) nd (k .dd)) in
@@ -123,7 +123,7 @@ module _ (c₀ d₀ : Pair) (nc : Within (dot c₀ c₀) normBound) (nd : Within
       record { cc = nc′; dd = nd′; cd = near-step σ c d (near-small (suc i) c₀ (microRotation i σ c) h nc nc′) (near-small (suc i) d₀ (microRotation i σ d) h nd nd′) (k .cd) }
 
   -- the first n, by any signs
-  pub kept-steps : (s : ℕ → Bool) (n : ℕ) → n ≤ 28 → Kept c₀ d₀ n (microRotations s n c₀) (microRotations s n d₀)
+  pub kept-steps : (s : ℕ → Bool) (n : ℕ) → n ≤ 28 → StepsKept c₀ d₀ n (microRotations s n c₀) (microRotations s n d₀)
   unfolding microRotations
   kept-steps s zero h = kept-start
   kept-steps s (suc n) h = kept-step (s n) n (microRotations s n c₀) (microRotations s n d₀) h (kept-steps s n (le-of-lt h))

@@ -2,5 +2,7 @@
 pub mod Tests
 pub mod Saturations
 pub mod Lengths
+pub mod Tails
+pub mod Silent
 pub mod Spread
 pub mod RoundTrip

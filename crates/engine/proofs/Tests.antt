@@ -1,4 +1,4 @@
--- What the number of a call's tests says: 0 that each test is passed, and which numbers there can be. Assumes nothing.
+-- What the number 0 of a call's tests says: that each test is passed. Assumes nothing.
 use mathlib.Core.Path.{_≡_, refl}
 use mathlib.Core.Bool.{Bool, true, false, cond}
 use mathlib.Core.List.{List}
@@ -42,6 +42,11 @@ sizes tag n rec l r h =
 pub load-accepted : (rec : List ℕ) (l : List ℤ) → loadRefusal rec l ≡ 0 → Sizes 1 257 rec l
 unfolding loadRefusal
 load-accepted rec l h = sizes 1 257 rec l (cond (allZero rec) 4 0) h .0
+
+-- an accepted matrix has an element other than zero
+pub load-zero : (rec : List ℕ) (l : List ℤ) → loadRefusal rec l ≡ 0 → allZero rec ≡ false
+unfolding loadRefusal
+load-zero rec l h = no (allZero rec) 3 0 (sizes 1 257 rec l (cond (allZero rec) 4 0) h .1) .0
 
 pub read-accepted : (rec : List ℕ) (l : List ℤ) → readRefusal rec l ≡ 0 → Sizes 2 2049 rec l × (isFinished (workspaceWord rec) ≡ true)
 unfolding readRefusal
@@ -99,3 +104,8 @@ whole-accepted rec l buffer h =
     let t = yes (eqb (getD rec 0 0) 1) 0 _ (a .1) in
     let n = yes (eqb (length rec) 257) 1 _ (t .1) in
     (s .0, ltb-false _ _ (b .0), rw (a .0, t .0, n .0, le-ltb (length l) 512 (s .0 .room)) (b .1))
+
+-- Whole accepts what Load accepts, with a buffer that is long enough
+pub whole-passes : (rec : List ℕ) (l : List ℤ) (buffer : List ℕ) → loadRefusal rec l ≡ 0 → 2049 ≤ length buffer → wholeRefusal rec l buffer ≡ 0
+unfolding wholeRefusal loadRefusal
+whole-passes rec l buffer h space = rw (le-ltb (length buffer) 2049 space) h

@@ -6,6 +6,8 @@ pub mod Run
 pub mod Fetch
 pub mod Read
 pub mod Whole
+pub mod Tail
+pub mod Silence
 pub mod Spread
 pub mod RoundTrip
 pub mod Marked

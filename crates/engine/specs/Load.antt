@@ -2,8 +2,7 @@
 use Prim.Native.Nat.{ℕ, zero, suc}
 use mathlib.Core.List.{List}
 use lib.IntN.{ℤ}
-use Rattle.lists.specs.Lists.{filled}
-use Rattle.records.specs.Matrix.{matrixTag, matrixBytes, loadedWord, heardByte}
+use Rattle.records.specs.Matrix.{matrixTag, matrixBytes, loadedWords, heardByte}
 use Rattle.engine.specs.Tests.{test1, test2, test3, test4}
 use Rattle.engine.specs.declared.load.LoadAnswer.{LoadAnswer}
 use Rattle.engine.specs.declared.load.LoadAnswer.the-variants.{Loaded, Refused}
@@ -18,7 +17,7 @@ loadRefusal rec workspace = test1 matrixTag rec (test2 matrixBytes rec (test3 wo
 
 -- by that number. The first 512 words are filled, the rest is as before; a refusal changes nothing
 unfoldable pub loadBy : ℕ → List ℕ → List ℤ → LoadOutcome
-loadBy zero rec workspace = record { answer = Loaded 0 (heardByte rec); workspace = filled 512 (loadedWord rec) workspace }
+loadBy zero rec workspace = record { answer = Loaded 0 (heardByte rec); workspace = loadedWords rec workspace }
 loadBy (suc n) rec workspace = record { answer = Refused (suc n); workspace = workspace }
 
 unfoldable pub loadOf : List ℕ → List ℤ → LoadOutcome

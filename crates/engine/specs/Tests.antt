@@ -8,7 +8,7 @@ use lib.Dec.{ltb, eqb}
 use lib.IntN.{ℤ}
 use lib.ListN.{length, getD}
 use Rattle.records.specs.Matrix.{allZero}
-use Rattle.records.specs.Result.{isFinished}
+use Rattle.records.specs.Result.{resultBytes, isFinished}
 
 -- no byte, or the tag is not the call's
 abbrev pub test1 : ℕ → List ℕ → ℕ → ℕ
@@ -36,7 +36,7 @@ test6 next rest = cond (ltb next 120) 6 rest
 
 -- buffer under 2,049 bytes
 abbrev pub test7 : List ℕ → ℕ → ℕ
-test7 buffer rest = cond (ltb (length buffer) 2049) 7 rest
+test7 buffer rest = cond (ltb (length buffer) resultBytes) 7 rest
 
 -- a word of R under the diagonal is not 0, or one of its first 15 diagonal words is negative; f gives the words by their position
 abbrev pub test8 : (ℕ → ℤ) → ℕ → ℕ

@@ -3,7 +3,7 @@ use Prim.Native.Nat.{ℕ, zero, suc}
 use mathlib.Core.List.{List}
 use lib.IntN.{ℤ}
 use Rattle.lists.specs.Lists.{filled}
-use Rattle.records.specs.Matrix.{matrixTag, matrixBytes, loadedWord, heardByte}
+use Rattle.records.specs.Matrix.{matrixTag, matrixBytes, loadedWords, heardByte}
 use Rattle.records.specs.Result.{R, Q, resultBytes, resultByte}
 use Rattle.engine.specs.Tests.{test1, test2, test3, test4, test7}
 use Rattle.engine.specs.Rotations.{rotationsMade}
@@ -22,7 +22,7 @@ wholeRefusal rec workspace buffer = test1 matrixTag rec (test2 matrixBytes rec (
 -- the workspace is left as Load and the 120 rotations make it, and the buffer holds the record of its R and Q
 unfoldable pub wholeDone : List ℕ → List ℤ → List ℕ → WholeOutcome
 wholeDone rec workspace buffer =
-    let r = rotationsMade 0 120 (filled 512 (loadedWord rec) workspace) in
+    let r = rotationsMade 0 120 (loadedWords rec workspace) in
     record {
       answer = Factored (heardByte rec) (r .saturations);
       workspace = r .words;

@@ -32,9 +32,9 @@ unfolding leadingWritten
 lead-saturations w base c l r e = rw e (byte-le (w .saturated))
 
 -- the leading column and then the others
-pub all-of : (f : ℕ → Column) (base c : ℕ) (l : List ℤ) (lead rest : Rows) → lead ≡ leadingWritten (f c .upper) base c l → rest ≡ written f base (c + 1) (31 - c) (lead .words) → record { words = rest .words; saturations = lead .saturations + rest .saturations } ≡ rowsWritten f base c l
+pub rows-of : (f : ℕ → Column) (base c : ℕ) (l : List ℤ) (lead rest : Rows) → lead ≡ leadingWritten (f c .upper) base c l → rest ≡ written f base (c + 1) (31 - c) (lead .words) → record { words = rest .words; saturations = lead .saturations + rest .saturations } ≡ rowsWritten f base c l
 unfolding rowsWritten
-all-of f base c l lead rest d e = rw (e, d)
+rows-of f base c l lead rest d e = rw (e, d)
 
 written-same : (f g : ℕ → Column) (base c n : ℕ) (l : List ℤ) → ((k : ℕ) → c ≤ k → k < c + n → f k ≡ g k) → written f base c n l ≡ written g base c n l
 unfolding written
@@ -42,9 +42,9 @@ written-same f g base c zero l same = refl
 written-same f g base c (suc n) l same =
     rw (written-same f g base c n l (λ k p q. same k p (omega arith)), same (c + n) (omega arith) (omega arith))
 
-pub all-same : (f g : ℕ → Column) (base c : ℕ) (l : List ℤ) → c < 32 → ((k : ℕ) → c ≤ k → k < 32 → f k ≡ g k) → rowsWritten f base c l ≡ rowsWritten g base c l
+pub rows-same : (f g : ℕ → Column) (base c : ℕ) (l : List ℤ) → c < 32 → ((k : ℕ) → c ≤ k → k < 32 → f k ≡ g k) → rowsWritten f base c l ≡ rowsWritten g base c l
 unfolding rowsWritten
-all-same f g base c l h same =
+rows-same f g base c l h same =
     rw (
       same c (le-refl c) h,
       written-same f g base (c + 1) (31 - c) (leadingWritten (g c .upper) base c l .words) (λ k p q. same k (omega arith) (omega arith)),

@@ -20,10 +20,10 @@ pub extern "C" fn hubqr_load(bytes: &[u8], area: &mut [i32], turn: &mut u32, hea
     let answer = engine::load::load(bytes, area);
     match answer {
         LoadAnswer::Loaded {
-            next,
+            next: first,
             heard: columns,
         } => {
-            *turn = next;
+            *turn = first;
             *heard = columns;
             0
         }
@@ -91,9 +91,9 @@ pub extern "C" fn hubqr_read(bytes: &[u8], area: &mut [i32], turn: &mut u32) -> 
             *turn = next;
             0
         }
-        ReadAnswer::Refused { number } => {
+        ReadAnswer::Refused { number: refusal } => {
             *turn = 0;
-            number
+            refusal
         }
     }
 }
@@ -113,11 +113,11 @@ pub extern "C" fn hubqr_whole(
     let answer = engine::whole::whole(bytes, area, buffer);
     match answer {
         WholeAnswer::Factored {
-            heard: columns,
-            clamps: saturations,
+            heard: antennas,
+            clamps: count,
         } => {
-            *heard = columns;
-            *clamps = saturations;
+            *heard = antennas;
+            *clamps = count;
             0
         }
         WholeAnswer::Refused { number } => {

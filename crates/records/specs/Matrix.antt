@@ -6,7 +6,7 @@ use mathlib.Core.List.{List}
 use lib.Dec.{ltb, eqb}
 use lib.IntN.{ℤ, pos, negℤ, natAbs, _*ℤ_}
 use lib.ListN.{getD}
-use Rattle.lists.specs.Lists.{allBelow}
+use Rattle.lists.specs.Lists.{filled, allBelow}
 use Rattle.records.specs.Words.{int16}
 
 -- the tag (document 01's kind byte) and the length of a matrix record
@@ -35,6 +35,10 @@ loadedAt rec i j =
 -- the workspace is 16 rows of 32 columns
 abbrev pub loadedWord : List ℕ → ℕ → ℤ
 loadedWord rec k = loadedAt rec (k / 32) (k % 32)
+
+-- the words of a workspace after loading: the first 512 are filled, the rest is as before
+abbrev pub loadedWords : List ℕ → List ℤ → List ℤ
+loadedWords rec workspace = filled 512 (loadedWord rec) workspace
 
 -- a number, an element and all 64 elements are zero
 abbrev pub isZero : ℤ → Bool

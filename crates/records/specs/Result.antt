@@ -20,7 +20,7 @@ resultBytes = 2049
 
 -- ---- R and Q
 
--- a matrix of 16 rows and columns
+-- a matrix: row, then column
 abbrev pub Matrix : Type 0
 Matrix = ℕ → ℕ → ℤ
 

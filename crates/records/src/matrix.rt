@@ -5,8 +5,7 @@ ghost use mathlib.Core.Path.{_≡_};
 ghost use Prim.Native.Nat.{_<_, _≤_};
 ghost use lib.Signed.{mag};
 ghost use lib.ListN.{length};
-ghost use Rattle.lists.specs.Lists.{filled};
-ghost use Rattle.records.specs.Matrix.{partOf, realEntry, loadedWord, zeroElement, allZero, zeroColumn, heardByte};
+ghost use Rattle.records.specs.Matrix.{partOf, realEntry, loadedWord, loadedWords, zeroElement, allZero, zeroColumn, heardByte};
 
 // The real (q is 0) or imaginary (q is 1) part of element e.
 fn part(bytes: &[u8], e: usize, q: usize) -> i32
@@ -116,7 +115,7 @@ pub fn heard_byte(bytes: &[u8]) -> u8
 // Fills the first 512 words of a workspace with the loaded matrix.
 pub fn fill(bytes: &[u8], workspace: &mut [i32])
     requires { ⌜ (length (now bytes) ≡ 257) × (512 ≤ length (now workspace)) ⌝ }
-    ensures { λ r. ⌜ now (workspace .exit) ≡ filled 512 (loadedWord (now (bytes .entry))) (now (workspace .entry)) ⌝ }
+    ensures { λ r. ⌜ now (workspace .exit) ≡ loadedWords (now (bytes .entry)) (now (workspace .entry)) ⌝ }
 {
     let mut k = 0;
     while k < 512 {

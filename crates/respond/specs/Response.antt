@@ -1,23 +1,26 @@
--- Document 01: the program does Whole, and writes the result record, or the refusal record. Its workspace has 512 words and its buffer 2,049
--- bytes, so tests 3 and 7 are passed and 1, 2 and 4 decide. Assumes nothing.
-use Prim.Native.Nat.{ℕ, zero, suc}
-use mathlib.Core.List.{List}
-use lib.IntN.{ℤ, pos}
+-- Document 01: the program does Whole, and writes the result record, or the refusal record. The workspace of 512 words and the buffer of 2,049
+-- bytes are its own. Assumes nothing.
+use mathlib.Core.Path.{_≡_, refl}
+use mathlib.Core.List.{List, [], _∷_}
+use Prim.Native.Nat.{ℕ}
+use lib.IntN.{pos}
 use lib.ListN.{replicate}
-use Rattle.lists.specs.Lists.{filled}
-use Rattle.records.specs.Matrix.{matrixTag, matrixBytes, loadedWord}
-use Rattle.records.specs.Result.{R, Q, resultRecord}
 use Rattle.records.specs.Refusal.{refusalRecord}
-use Rattle.engine.specs.Tests.{test1, test2, test4}
-use Rattle.engine.specs.Rotations.{rotationsMade}
+use Rattle.engine.specs.Whole.{wholeRefusal, wholeBy, wholeOf}
+use Rattle.engine.specs.declared.whole.WholeAnswer.{WholeAnswer}
+use Rattle.engine.specs.declared.whole.WholeAnswer.the-variants.{Factored, Refused}
 
--- the loaded workspace after all 120 rotations
-abbrev pub worked : List ℕ → List ℤ
-worked rec = rotationsMade 0 120 (filled 512 (loadedWord rec) (replicate 512 (pos 0))) .words
-
-unfoldable pub responseBy : ℕ → List ℕ → List ℕ
-responseBy zero rec = resultRecord (R (worked rec)) (Q (worked rec))
-responseBy (suc n) rec = refusalRecord (suc n)
+-- by Whole's answer: what it left in the buffer, or the refusal record
+abbrev pub written : WholeAnswer → List ℕ → List ℕ
+written (Factored heard clamps) buffer = buffer
+written (Refused number) buffer = refusalRecord number
 
 unfoldable pub response : List ℕ → List ℕ
-response rec = responseBy (test1 matrixTag rec (test2 matrixBytes rec (test4 rec 0))) rec
+response rec =
+    let o = wholeOf rec (replicate 512 (pos 0)) (replicate 2049 0) in
+    written (o .answer) (o .buffer)
+
+-- with empty input the whole output is 03 01
+pub empty : response [] ≡ 3 ∷ 1 ∷ []
+unfolding response wholeOf wholeBy wholeRefusal
+empty = refl

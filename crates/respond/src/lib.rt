@@ -1,13 +1,15 @@
 // What the program makes of its input, on slices: Whole, and the result record or the refusal record.
 use engine::whole::WholeAnswer;
 ghost use mathlib.Core.Path.{_≡_};
+ghost use mathlib.Core.List.{_++_};
 ghost use Prim.Native.Nat.{_≤_};
-ghost use lib.ListN.{length, take};
+ghost use lib.ListN.{length, drop};
 ghost use Rattle.respond.specs.Response.{response};
 
-// Puts the record that answers the input at the start of output, and answers its length.
+// Puts the record that answers the input at the start of output, leaves the rest of output, and answers the record's length.
 pub fn respond(input: &[u8], output: &mut [u8; 2049]) -> usize
-    ensures bytes { λ r. ⌜ take r (now (output .exit)) ≡ response (now (input .entry)) ⌝ }
+    ensures size { λ r. ⌜ r ≡ length (response (now (input .entry))) ⌝ }
+    ensures bytes { λ r. ⌜ now (output .exit) ≡ response (now (input .entry)) ++ drop r (now (output .entry)) ⌝ }
     ensures fits { λ r. ⌜ r ≤ length (now (output .exit)) ⌝ }
 {
     let mut workspace = [0i32; 512];

@@ -70,7 +70,7 @@ before-next ds [] k h = absurd (not-suc-le-zero h)
 before-next ds (t ∷ ts) zero h = refl
 before-next ds (t ∷ ts) (suc k) h = before-next (t ∷ ds) ts k (le-of-suc-le-suc h)
 
--- rotations 0 to k - 1 of the tree order, the last one first
+-- rotations 0 to k - 1 of the schedule, the last one first
 pub done : ℕ → List Rotation
 done k = before [] schedule k
 

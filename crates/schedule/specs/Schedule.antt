@@ -18,7 +18,7 @@ survivors (a ∷ []) = a ∷ []
 survivors (a ∷ b ∷ rest) = a ∷ survivors rest
 
 -- the stages of a column, each as the rows that stand at its start, until one row stands alone.
--- The first argument bounds their number: a stage takes a row away at least, so the number of rows is enough
+-- The first argument bounds their number: a stage takes at least one row away, so the number of rows is enough
 unfoldable pub stages : ℕ → List ℕ → List (List ℕ)
 stages zero rows = []
 stages (suc n) [] = []

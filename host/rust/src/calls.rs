@@ -195,7 +195,7 @@ pub fn whole(record: &[u8], area: &mut [i32], buffer: &mut [u8]) -> Result<Facto
     accepted(number).map(|()| Factored { heard, clamps })
 }
 
-/// The outcome that a returned number stands for. The archive is proved to return 0 to 8 only, so
+/// The outcome that a returned number stands for. The contracts give 0 to 8 only, so
 /// another number means that it is not the archive these declarations were written for: nothing it
 /// left in the lent memory could be trusted.
 fn accepted(number: u8) -> Result<(), Refusal> {

@@ -24,7 +24,7 @@ array-share-prefix-output : tie.Need-array-share-prefix-output
 array-share-prefix-output c = search needs
 
 slice-aggregate-write-all : tie.Need-slice-aggregate-write-all
-slice-aggregate-write-all c = sym (length-take-le _ _ (c .before .respond .ensures .1))
+slice-aggregate-write-all c = sym (length-take-le _ _ (c .before .respond .ensures .1 .1))
 
 write-all-requires : tie.Need-write-all-requires
 write-all-requires c κs = search needs

@@ -1,61 +1,84 @@
 -- `respond` meets its contract: by the number of Whole's tests the buffer holds the result record, or the refusal record is put into it.
 -- Assumes nothing.
 use mathlib.Core.Path.{_≡_, refl, sym, ap, _∙_}
-use mathlib.Core.List.{List, [], _∷_}
-use Prim.Native.Nat.{ℕ, zero, suc}
+use mathlib.Core.List.{List, [], _∷_, _++_, append-nil}
+use Prim.Native.Nat.{ℕ, zero, suc, _≤_}
 use native.Mathlib.Omega.{arith}
 use borrow.Author.Needs.{needs}
 use borrow.Author.Tests.{le-ltb}
 use lib.IntN.{ℤ, pos}
-use lib.ListN.{length, take, drop, set, replicate, length-set}
-use lib.Seq.{take-at}
+use lib.ListN.{length, drop, set, replicate, length-set, drop-of-length-le}
 use denote.Ref.{now}
 use Rattle.lists.specs.Lists.{tabulate, filled}
 use Rattle.lists.proofs.Tabulate.{length-tabulate}
-use Rattle.records.specs.Matrix.{matrixTag, matrixBytes}
-use Rattle.records.specs.Result.{R, Q, resultByte, resultRecord}
+use Rattle.records.specs.Matrix.{loadedWords}
+use Rattle.records.specs.Result.{R, Q, resultByte}
 use Rattle.records.specs.Refusal.{refusalRecord}
-use Rattle.engine.specs.Tests.{test1, test2, test4}
+use Rattle.engine.specs.Rotations.{rotationsMade}
 use Rattle.engine.specs.Whole.{WholeOutcome, wholeRefusal, wholeDone, wholeBy, wholeOf}
 use Rattle.engine.specs.declared.whole.WholeAnswer.the-variants.{Factored, Refused}
-use Rattle.respond.specs.Response.{worked, responseBy, response}
+use Rattle.respond.specs.Response.{written, response}
 use Rattle.respond.proofs.respond.Statement.{statement}
 use Rattle.respond.proofs.respond.Tie as tie
 
 abbrev zeros : List ℤ
 zeros = replicate 512 (pos 0)
 
-module _ (rec : List ℕ) (out : List ℕ) (size : length out ≡ 2049) where
-  -- tests 3 and 7 are passed
-  number-is : wholeRefusal rec zeros out ≡ test1 matrixTag rec (test2 matrixBytes rec (test4 rec 0))
-  unfolding wholeRefusal
-  number-is = rw (le-ltb (length out) 2049 (omega arith))
+abbrev blank : List ℕ
+blank = replicate 2049 0
 
-  -- an outcome by its number, where it is accepted and where it is refused
-  accepted : (number : ℕ) (o : WholeOutcome) (heard clamps : ℕ) → o ≡ wholeBy number rec zeros out → o .answer ≡ Factored heard clamps → take 2049 (o .buffer) ≡ responseBy number rec
-  unfolding wholeBy wholeDone responseBy filled resultRecord
+-- Whole's tests look at no byte of the buffer, only at its length
+same-number : (rec out : List ℕ) → length out ≡ 2049 → wholeRefusal rec zeros blank ≡ wholeRefusal rec zeros out
+unfolding wholeRefusal
+same-number rec out e = rw (le-ltb (length out) 2049 (omega arith))
+
+first-two : (l : List ℕ) (x y : ℕ) → length l ≡ 2049 → set (set l 0 x) 1 y ≡ (x ∷ y ∷ []) ++ drop 2 l
+first-two [] x y e = absurd (omega arith)
+first-two (a ∷ []) x y e = absurd (omega arith)
+first-two (a ∷ b ∷ l) x y e = refl
+
+two-fit : (l : List ℕ) (x y : ℕ) → length l ≡ 2049 → 2 ≤ length (set (set l 0 x) 1 y)
+two-fit l x y e = omega (arith, length-set (set l 0 x) 1 y, length-set l 0 x)
+
+-- what an outcome by the number leaves, and what is written of it
+module _ (rec out : List ℕ) (size : length out ≡ 2049) where
+  -- by the number, what the response is
+  abbrev answered : ℕ → List ℕ
+  answered number = let o = wholeBy number rec zeros blank in written (o .answer) (o .buffer)
+
+  response-is : response rec ≡ answered (wholeRefusal rec zeros out)
+  unfolding response wholeOf
+  response-is = ap answered (same-number rec out size)
+
+  -- accepted: the buffer is filled whole
+  filled-whole : (f : ℕ → ℕ) (b : List ℕ) → length b ≡ 2049 → filled 2049 f b ≡ tabulate 2049 f
+  unfolding filled
+  filled-whole f b e = rw (drop-of-length-le b {i = 2049} (omega arith)) (append-nil (tabulate 2049 f))
+
+  accepted : (number : ℕ) (o : WholeOutcome) (heard clamps : ℕ) → o ≡ wholeBy number rec zeros out → o .answer ≡ Factored heard clamps
+      → (2049 ≡ length (answered number)) × (o .buffer ≡ answered number ++ drop 2049 out)
+  unfolding wholeBy wholeDone
   accepted zero o heard clamps e a =
-      ap (λ (x : WholeOutcome). take 2049 (x .buffer)) e
-      ∙ take-at (tabulate 2049 (resultByte (R (worked rec)) (Q (worked rec)))) (drop 2049 out) 2049 (length-tabulate 2049 (resultByte (R (worked rec)) (Q (worked rec))))
+      let f : ℕ → ℕ = resultByte (R (rotationsMade 0 120 (loadedWords rec zeros) .words)) (Q (rotationsMade 0 120 (loadedWords rec zeros) .words)) in
+      let b : filled 2049 f blank ≡ tabulate 2049 f = filled-whole f blank refl in
+      let n : length (filled 2049 f blank) ≡ 2049 = ap length b ∙ length-tabulate 2049 f in
+      let d : drop 2049 out ≡ [] = drop-of-length-le out {i = 2049} (omega arith) in
+      (sym n, ap (λ (x : WholeOutcome). x .buffer) e ∙ filled-whole f out size ∙ sym (rw (d, append-nil) b))
   accepted (suc n) o heard clamps e a = absurd (clash (sym a ∙ ap (λ (x : WholeOutcome). x .answer) e))
     where
       clash : Factored heard clamps ≡ Refused (suc n) → ⊥
       clash q = let z : _≡_ {A = ℕ} 0 1 = cc in omega arith
 
-  first-two : (l : List ℕ) (x y : ℕ) → length l ≡ 2049 → take 2 (set (set l 0 x) 1 y) ≡ x ∷ y ∷ []
-  first-two [] x y e = absurd (omega arith)
-  first-two (a ∷ []) x y e = absurd (omega arith)
-  first-two (a ∷ b ∷ l) x y e = refl
-
-  refused : (number : ℕ) (o : WholeOutcome) (n : ℕ) → o ≡ wholeBy number rec zeros out → o .answer ≡ Refused n → take 2 (set (set (o .buffer) 0 3) 1 n) ≡ responseBy number rec
-  unfolding wholeBy wholeDone responseBy
+  refused : (number : ℕ) (o : WholeOutcome) (n : ℕ) → o ≡ wholeBy number rec zeros out → o .answer ≡ Refused n
+      → (2 ≡ length (answered number)) × (set (set (o .buffer) 0 3) 1 n ≡ answered number ++ drop 2 out)
+  unfolding wholeBy wholeDone
   refused zero o n e a = absurd (clash (sym a ∙ ap (λ (x : WholeOutcome). x .answer) e))
     where
       clash : {h s : ℕ} → Refused n ≡ Factored h s → ⊥
       clash q = let z : _≡_ {A = ℕ} 0 1 = cc in omega arith
   refused (suc m) o n e a =
       let same : n ≡ suc m = number (sym a ∙ ap (λ (x : WholeOutcome). x .answer) e) in
-      ap (λ (x : WholeOutcome). take 2 (set (set (x .buffer) 0 3) 1 n)) e ∙ first-two out 3 n size ∙ ap refusalRecord same
+      (refl, ap (λ (x : WholeOutcome). set (set (x .buffer) 0 3) 1 n) e ∙ first-two out 3 n size ∙ ap (λ (k : ℕ). refusalRecord k ++ drop 2 out) same)
     where
       number : Refused n ≡ Refused (suc m) → n ≡ suc m
       number q = cc
@@ -88,26 +111,23 @@ element-write-output-2 : tie.Need-element-write-output-2
 element-write-output-2 c = search needs
 
 returns : tie.Need-returns
-unfolding response wholeOf
+unfolding wholeOf
 returns c =
     let w = c .before .before .before in
     let a = w .before .before .before .before .args in
-    let size : length (now (a .output)) ≡ 2049 = search needs in (
-      rw (← number-is (now (a .input)) (now (a .output)) size)
-          (accepted (now (a .input)) (now (a .output)) size _ _ _ _ (w .whole .ensures) (c .enum-told .given .1)),
-      omega (arith, w .whole .kept .1 .1 .0),
-    )
+    let size : length (now (a .output)) ≡ 2049 = search needs in
+    let p = accepted (now (a .input)) (now (a .output)) size _ _ _ _ (w .whole .ensures) (c .enum-told .given .1) in
+    rw (response-is (now (a .input)) (now (a .output)) size) (p .0, (p .1, omega (arith, w .whole .kept .1 .1 .0)))
 
 returns-2 : tie.Need-returns-2
-unfolding response wholeOf
+unfolding wholeOf
 returns-2 c =
     let w = c .before .before .before .before .before in
     let a = w .before .before .before .before .args in
-    let size : length (now (a .output)) ≡ 2049 = search needs in (
-      rw (← number-is (now (a .input)) (now (a .output)) size, c .refusal-record .ensures)
-          (refused (now (a .input)) (now (a .output)) size _ _ _ (w .whole .ensures) (c .before .before .answer .given .1)),
-      simp length-set (omega (arith, w .whole .kept .1 .1 .0)),
-    )
+    let size : length (now (a .output)) ≡ 2049 = search needs in
+    let p = refused (now (a .input)) (now (a .output)) size _ _ _ (w .whole .ensures) (c .before .before .answer .given .1) in
+    rw (response-is (now (a .input)) (now (a .output)) size, c .refusal-record .ensures)
+    (p .0, (p .1, two-fit (w .whole .last .1 .1 .0) 3 (c .before .before .answer .given .0 .0) (w .whole .kept .1 .1 .0 ∙ size)))
 
 pub respond-spec : {M : Type 1} → statement M
 respond-spec =

@@ -1,4 +1,4 @@
--- `make_rotation` meets its contract: the tree order's shape is what a rotation of the workspace asks. Assumes nothing.
+-- `make_rotation` meets its contract: the schedule's shape is what a rotation of the workspace asks. Assumes nothing.
 use Prim.Native.Nat.{ℕ, _<_}
 use native.Mathlib.Omega.{arith}
 use mathlib.Core.Path.{_≡_, _∙_}

@@ -9,7 +9,7 @@ use lib.Signed.{ltZ}
 use denote.Ref.{now}
 use borrow.Author.Needs.{needs}
 use Rattle.givens.specs.Rotation.{pairAt, stored, columnAt, rotatedAt}
-use Rattle.givens.proofs.Written.{all-same}
+use Rattle.givens.proofs.Written.{rows-same}
 use Rattle.givens.proofs.Norms.{bounded-at, bounded-oriented}
 use Rattle.givens.proofs.narrow.rotate_in.Statement.{statement}
 use Rattle.givens.proofs.narrow.rotate_in.Tie as tie
@@ -63,7 +63,7 @@ returns c =
     let a = s .args in
     let l = now (a .part) in
     c .before .store-rows .ensures
-    ∙ all-same
+    ∙ rows-same
     (λ (k : ℕ). stored (pairAt (d .rotate-columns .last .1 .0) (d .rotate-columns .last .1 .1 .0) (k - a .column)))
     (λ (k : ℕ). stored (rotatedAt (ltZ (getD l (a .column) (pos 0)) (pos 0)) (a .base) (a .column) l k))
     (a .base)

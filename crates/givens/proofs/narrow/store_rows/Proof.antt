@@ -10,7 +10,7 @@ use mir.Facts.{toZ-ofZ}
 use denote.Ref.{now}
 use borrow.Author.Needs.{needs}
 use Rattle.givens.specs.Rotation.{pairAt, stored, leadingWritten}
-use Rattle.givens.proofs.Written.{all-of}
+use Rattle.givens.proofs.Written.{rows-of}
 use Rattle.givens.proofs.narrow.store_rows.Statement.{statement}
 use Rattle.givens.proofs.narrow.store_rows.Tie as tie
 
@@ -56,7 +56,7 @@ returns : tie.Need-returns
 returns c =
     let d = c .before .before .before in
     let a = d .before .before .args in
-    all-of
+    rows-of
     (λ (k : ℕ). stored (pairAt (now (a .us)) (now (a .vs)) (k - a .column)))
     (a .base)
     (a .column)

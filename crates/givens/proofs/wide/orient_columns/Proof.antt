@@ -1,4 +1,4 @@
--- `orient_columns` meets its contract. The loop's invariant: the columns before k are loaded. Assumes nothing.
+-- `orient_columns` meets its contract. The loop's invariant: the columns before k are oriented. Assumes nothing.
 use Prim.Native.Nat.{ℕ, _≤_, _<_, _-_, _+_, _^_}
 use native.Mathlib.Nat.{lt-irrefl}
 use native.Mathlib.Omega.{arith}

@@ -1,4 +1,4 @@
--- `rotate_columns` meets its contract. The loop's invariant: the columns have made i steps. Assumes nothing.
+-- `rotate_columns` meets its contract. The loop's invariant: the columns have made i micro-rotations. Assumes nothing.
 use Prim.Native.Nat.{ℕ, _≤_, _<_, _-_, _+_, _^_}
 use native.Mathlib.Nat.{le-refl}
 use native.Mathlib.Numerals.{add-one}

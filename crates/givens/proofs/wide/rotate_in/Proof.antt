@@ -1,4 +1,4 @@
--- `rotate_in` meets its contract: the columns after the steps are stored. Assumes nothing.
+-- `rotate_in` meets its contract: the columns after the micro-rotations are stored. Assumes nothing.
 use Prim.Native.Nat.{ℕ, _*_}
 use native.Mathlib.Omega.{arith}
 use mathlib.Core.Path.{ap, _∙_}
@@ -11,7 +11,7 @@ use mir.Facts.{toZ-ofZ}
 use denote.Ref.{now}
 use borrow.Author.Needs.{needs}
 use Rattle.givens.specs.Rotation.{pairAt, stored, rotatedAt, rotated}
-use Rattle.givens.proofs.Written.{all-same}
+use Rattle.givens.proofs.Written.{rows-same}
 use Rattle.givens.proofs.wide.rotate_in.Statement.{statement}
 use Rattle.givens.proofs.wide.rotate_in.Tie as tie
 
@@ -55,7 +55,7 @@ returns c =
     let us = d .rotated-columns .last .1 .1 .1 .1 .0 in
     let vs = d .rotated-columns .last .1 .1 .1 .1 .1 .0 in
     c .before .store-rows .ensures
-    ∙ all-same
+    ∙ rows-same
     (λ (k : ℕ). stored (pairAt us vs k))
     (λ (k : ℕ). stored (rotatedAt (ltZ (getD l (a .column) (pos 0)) (pos 0)) (a .gap * 32) (a .column) l k))
     (a .gap * 32)

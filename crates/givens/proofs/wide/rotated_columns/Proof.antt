@@ -28,7 +28,7 @@ same-length c = search needs
 same-length-2 : tie.Need-same-length-2
 same-length-2 c = search needs
 
--- each column after the steps
+-- each column after the micro-rotations
 microRotated : (c : tie.After-rotate-columns) → let s = c .before .before .before .before .before .before .before .before .args in (j : ℕ) → s .column ≤ j → j < 32 → pairAt (c .rotate-columns .last .1 .0) (c .rotate-columns .last .1 .1 .0) j ≡ rotatedAt (s .negate) (s .base) (s .column) (now (s .part)) j
 unfolding rotatedAt
 microRotated c j p q =

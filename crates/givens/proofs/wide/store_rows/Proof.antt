@@ -10,7 +10,7 @@ use mir.Facts.{toZ-ofZ}
 use denote.Ref.{now}
 use borrow.Author.Needs.{needs}
 use Rattle.givens.specs.Rotation.{pairAt, stored}
-use Rattle.givens.proofs.Written.{lead-saturations, written-saturations, all-of}
+use Rattle.givens.proofs.Written.{lead-saturations, written-saturations, rows-of}
 use Rattle.givens.proofs.wide.store_rows.Statement.{statement}
 use Rattle.givens.proofs.wide.store_rows.Tie as tie
 
@@ -53,7 +53,7 @@ returns c =
     let d = c .before .before .before .before in
     let a = d .before .before .before .args in
     let u : SFits w64 (getD (now (a .us)) (a .column) (pos 0)) = search needs in
-    all-of
+    rows-of
     (λ (k : ℕ). stored (pairAt (now (a .us)) (now (a .vs)) k))
     (a .base)
     (a .column)

@@ -1,0 +1,43 @@
+//! Writes what a program of the product has to write, to standard output.
+//!
+//! ```text
+//! expected cases         what `cases` writes for the script that it is run on
+//! expected whole FILE    what `qr` writes for the input in FILE
+//! ```
+
+use std::env;
+use std::fs;
+use std::io::{self, Write};
+use std::process::ExitCode;
+
+use reference::listing::{listing, SCRIPT};
+use reference::program::respond;
+
+const USAGE: &str = "usage: expected cases | expected whole FILE";
+
+fn main() -> ExitCode {
+    let written = expected().and_then(|bytes| {
+        let written = io::stdout().write_all(&bytes);
+        written.map_err(|error| format!("standard output: {error}"))
+    });
+    match written {
+        Ok(()) => ExitCode::SUCCESS,
+        Err(message) => {
+            eprintln!("{message}");
+            ExitCode::FAILURE
+        }
+    }
+}
+
+fn expected() -> Result<Vec<u8>, String> {
+    let words: Vec<String> = env::args().skip(1).collect();
+    let words: Vec<&str> = words.iter().map(String::as_str).collect();
+    match words[..] {
+        ["cases"] => Ok(listing(SCRIPT).into_bytes()),
+        ["whole", file] => match fs::read(file) {
+            Ok(record) => Ok(respond(&record)),
+            Err(error) => Err(format!("{file}: {error}")),
+        },
+        _ => Err(USAGE.into()),
+    }
+}
