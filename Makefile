@@ -9,6 +9,8 @@ CARGO := cargo --quiet
 SOURCES := crates.txt $(shell find crates -type f)
 TOOLS := build/cargo/release
 
+# The proofs of two targets share target/, so they are made one after the other; rt itself uses every core.
+.NOTPARALLEL:
 .PHONY: run test bench figures check-c check-rust check-examples check-docs clean
 
 run: build/qr $(TOOLS)/record
