@@ -1,4 +1,4 @@
-// Fetch: the result record of a finished workspace.
+// Fetch: the result record of a finished workspace. Read takes it back to the same words: `specs/RoundTrip.antt`.
 ghost use mathlib.Core.Path.{_≡_};
 ghost use Rattle.engine.specs.Fetch.{FetchOutcome, fetchRefusal, fetchOf};
 

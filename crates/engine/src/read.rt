@@ -1,4 +1,4 @@
-// Read: a result record becomes the words of a workspace again.
+// Read: a result record becomes the words of a workspace again. Fetch writes it again byte for byte: `specs/RoundTrip.antt`.
 ghost use mathlib.Core.Path.{_≡_};
 ghost use Rattle.engine.specs.Read.{ReadOutcome, readRefusal, readOf};
 

@@ -1,4 +1,4 @@
-// Run: some of the rotations that remain.
+// Run: some of the rotations that remain. Two Runs in a row make what one with the sum of their budgets makes: `specs/Spread.antt`.
 use crate::rotations::make_rotations;
 ghost use mathlib.Core.Path.{_≡_};
 ghost use Prim.Native.Nat.{min};

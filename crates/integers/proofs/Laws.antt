@@ -19,9 +19,6 @@ swap-right a b c = +ℤ-assoc a b c ∙ ap (λ x. a +ℤ x) (+ℤ-comm b c) ∙ 
 pub swap-left : (a b c : ℤ) → a +ℤ (b +ℤ c) ≡ b +ℤ (a +ℤ c)
 swap-left a b c = sym (+ℤ-assoc a b c) ∙ ap (λ x. x +ℤ c) (+ℤ-comm a b) ∙ +ℤ-assoc b a c
 
-pub swap-inner : (a b c d : ℤ) → (a +ℤ b) +ℤ (c +ℤ d) ≡ (a +ℤ c) +ℤ (b +ℤ d)
-swap-inner a b c d = +ℤ-assoc a b (c +ℤ d) ∙ ap (λ x. a +ℤ x) (swap-left b c d) ∙ sym (+ℤ-assoc a c (b +ℤ d))
-
 -- ---- the product
 pub *ℤ-distr : (a b c : ℤ) → (a +ℤ b) *ℤ c ≡ a *ℤ c +ℤ b *ℤ c
 *ℤ-distr (pos zero) b c = ap (λ x. x *ℤ c) (+ℤ-idl b) ∙ sym (ap (λ x. x +ℤ b *ℤ c) (zero-*ℤ c) ∙ +ℤ-idl (b *ℤ c))

@@ -1,5 +1,5 @@
 -- Document 01, "Tree order": 120 rotations and 49 stages, and in each column the stages end with its first row alone. That the constant table
--- of the code holds the schedule is the contract of `rotation_at`. Assumes nothing.
+-- of the code holds the schedule is the contract of `table`. Assumes nothing.
 use mathlib.Core.Path.{_≡_, refl}
 use mathlib.Core.List.{List, [], _∷_}
 use mathlib.Core.Bool.{true, _&&_}
