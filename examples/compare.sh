@@ -40,6 +40,16 @@ check() {
     passed=$((passed + 1))
 }
 
+# Both programs end with status 1 and say so when their output cannot be written.
+check_full() {
+    for program in "$c_program" "$rust_program"; do
+        "$program" >/dev/full 2>"$scratch/full.err"
+        [ $? = 1 ] || fail "$program does not end with status 1 on a full device"
+        grep -q -F 'standard output: ' "$scratch/full.err" || fail "$program does not report a full device"
+    done
+    passed=$((passed + 1))
+}
+
 c_program=$1
 rust_program=$2
 check 0 'turn 120 of 120, made 1, clamps 0, rounds of other work 18'
@@ -52,5 +62,7 @@ check 1 'refused with number 1: ' $records/README.md
 printf '\001' >"$scratch/short.bin"
 check 1 'refused with number 2: ' "$scratch/short.bin"
 check 1 'No such file' "$scratch/absent.bin"
+check 1 'No such file' "$scratch/$(printf '\377').bin"
 check 2 'usage: ' one two
+check_full
 echo "examples: $passed checks passed"

@@ -106,6 +106,16 @@ static void print_r(const int32_t *area)
     }
 }
 
+/* Whether all that was printed has been written. */
+static int written(void)
+{
+    if (fflush(stdout) != 0 || ferror(stdout)) {
+        fprintf(stderr, "instalments: standard output: not everything could be written\n");
+        return 0;
+    }
+    return 1;
+}
+
 int main(int argc, char **argv)
 {
     static int32_t area[HUBQR_AREA_WORDS];
@@ -128,5 +138,5 @@ int main(int argc, char **argv)
     }
     printf("result record: kind %02X, %lu bytes\n", (unsigned)result[0], (unsigned long)sizeof result);
     print_r(area);
-    return 0;
+    return written() ? 0 : 1;
 }

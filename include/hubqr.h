@@ -1,6 +1,8 @@
 /*
+ * SPDX-License-Identifier: Apache-2.0
+ *
  * hubqr.h - QR factorization of the 8 by 8 complex matrix that a radio hub's eight antennas heard, by Givens rotations with
- * CORDIC steps in fixed point. Link with libhubqr.a; nothing else is needed.
+ * CORDIC steps in fixed point. Link with libhubqr.a; nothing else is needed. The archive is x86-64 ELF for Linux.
  *
  * Use
  *   In one call:     hubqr_whole.

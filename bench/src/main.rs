@@ -26,7 +26,9 @@ use rounds::Results;
 use table::Table;
 
 fn main() -> ExitCode {
-    let options = match Options::parse(env::args().skip(1)) {
+    // No option has characters that are lost here: such an argument is refused as no option.
+    let arguments = env::args_os().map(|argument| argument.to_string_lossy().into_owned());
+    let options = match Options::parse(arguments.skip(1)) {
         Ok(options) => options,
         Err(message) => {
             eprintln!("bench: {message}\n\n{USAGE}");

@@ -15,7 +15,11 @@ fn main() {
     let archive = folder.join("libhubqr.a");
     println!("cargo:rerun-if-changed={}", archive.display());
     if !archive.is_file() {
-        println!("cargo:warning={} is not there", archive.display());
+        println!(
+            "cargo:warning={} is not there: run `make build/libhubqr.a`, or name its folder in \
+             HUBQR_LIB_DIR",
+            archive.display()
+        );
     }
     println!("cargo:rustc-link-search=native={}", folder.display());
     println!("cargo:rustc-link-lib=static=hubqr");

@@ -47,7 +47,7 @@ fn arbitrary_area(random: &mut Random) -> [i32; AREA_WORDS] {
 fn arbitrary_words_saturate_alike() {
     let (mut runs, mut clamps) = (0, 0u64);
     for number in 0..AREAS {
-        let case = Case::new("arbitrary words", 101, number, &[]);
+        let case = Case::of_words("arbitrary words", 101, number);
         let mut random = case.random();
         let mut both = Both::new(case);
         both.lend(AREA_WORDS + random.below(3), 2049);
@@ -74,7 +74,7 @@ fn arbitrary_words_saturate_alike() {
 #[test]
 fn a_run_over_all_turns_always_leaves_a_result() {
     for number in 0..300 {
-        let case = Case::new("arbitrary words to the end", 102, number, &[]);
+        let case = Case::of_words("arbitrary words to the end", 102, number);
         let area = arbitrary_area(&mut case.random());
         let mut both = Both::new(case);
         both.fill_area(&area);

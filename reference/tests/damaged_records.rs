@@ -152,11 +152,11 @@ fn result_records_with_a_damaged_byte() {
 #[test]
 fn fetch_refuses_a_damaged_area() {
     for number in 0..500 {
-        let case = Case::new("damaged area", 208, number, &[]);
+        let case = Case::of_words("damaged area", 208, number);
         let mut random = case.random();
         let record = write_matrix(&Kind::FullRange.matrix(&mut random));
         let mut both = Both::new(Case {
-            record: record.to_vec(),
+            record: Some(record.to_vec()),
             ..case
         });
         both.whole(&record);

@@ -202,6 +202,10 @@ fn check_result(both: &Both, matrix: &Matrix) -> Errors {
         errors.rows <= BOUND,
         "Q is further than 2^44 from orthogonal",
     );
+    both.require(
+        errors.columns <= BOUND,
+        "products of R's columns are further than 2^44 from the input's",
+    );
     errors
 }
 

@@ -121,56 +121,114 @@ fn columns_near(norm: u64, outside: Outside, leading: usize, random: &mut Random
     area
 }
 
-/// Makes an area for each norm and each way of lying outside of it, and runs it from a turn on,
-/// once with each budget.
-fn compare_areas(
+/// One way of making areas next to a norm, and what to do with them.
+struct Areas<Make, Rows> {
     test: &'static str,
     seed: u64,
-    area: impl Fn(u64, Outside, Turn, &mut Random) -> WorkArea,
+    make: Make,
+    /// The rows over which a column's squares are summed.
+    rows: Rows,
+    /// Each area is run from a turn on, once with each budget.
     budgets: [i64; 2],
-) {
-    let schedule = schedule::turns();
-    let (mut number, mut clamps) = (0, 0);
-    for norm in NORMS {
-        for outside in Outside::ALL {
-            for _ in 0..AREAS_PER_NORM {
-                let case = Case::new(test, seed, number, &[]);
-                let mut random = case.random();
-                let mut turn = random.below(TURNS as usize) as u32;
-                let area = area(norm, outside, schedule[turn as usize], &mut random);
-                let mut both = Both::new(case);
-                both.fill_area(&area.to_words());
-                for budget in budgets {
-                    let reply = both.run(turn, random.between(1, budget) as u16);
-                    clamps += reply.clamps;
-                    turn = reply.next;
+}
+
+/// What was met at one norm.
+#[derive(Default)]
+struct Met {
+    /// Areas with no column above the norm.
+    inside: u64,
+    /// Areas with at least one column above it.
+    outside: u64,
+    clamps: u32,
+}
+
+/// The largest sum of squares of a column over these rows, from the leading column on.
+fn longest(area: &WorkArea, rows: &[usize], leading: usize) -> u128 {
+    let square = |row: usize, column| u128::from(area.word(row, column).unsigned_abs()).pow(2);
+    let sum = |column| rows.iter().map(|&row| square(row, column)).sum();
+    (leading..COLUMNS).map(sum).max().unwrap_or(0)
+}
+
+impl<Make, Rows> Areas<Make, Rows>
+where
+    Make: Fn(u64, Outside, Turn, &mut Random) -> WorkArea,
+    Rows: Fn(Turn) -> Vec<usize>,
+{
+    /// Compares areas for each norm and each way of lying outside of it.
+    fn compare(&self) {
+        let (mut number, mut clamps) = (0, 0);
+        println!("\nAreas with {} next to a norm:", self.test);
+        for norm in NORMS {
+            let mut met = Met::default();
+            for outside in Outside::ALL {
+                for _ in 0..AREAS_PER_NORM {
+                    self.compare_one(number, norm, outside, &mut met);
+                    number += 1;
                 }
-                number += 1;
             }
+            let Met {
+                inside, outside, ..
+            } = met;
+            println!("norm {norm}: {inside} inside, {outside} outside");
+            assert!(inside >= AREAS_PER_NORM, "few areas inside of {norm}");
+            assert!(outside >= 4 * AREAS_PER_NORM, "few areas outside of {norm}");
+            clamps += met.clamps;
+        }
+        println!("{number} areas, {clamps} clamps");
+        assert!(clamps > 0, "the norms that clamp were not reached");
+    }
+
+    fn compare_one(&self, number: u64, norm: u64, outside: Outside, met: &mut Met) {
+        let case = Case::of_words(self.test, self.seed, number);
+        let mut random = case.random();
+        let mut next = random.below(TURNS as usize) as u32;
+        let turn = schedule::turns()[next as usize];
+        let area = (self.make)(norm, outside, turn, &mut random);
+        match longest(&area, &(self.rows)(turn), turn.column) > u128::from(norm) {
+            true => met.outside += 1,
+            false => met.inside += 1,
+        }
+        let mut both = Both::new(case);
+        both.fill_area(&area.to_words());
+        for budget in self.budgets {
+            let reply = both.run(next, random.between(1, budget) as u16);
+            met.clamps += reply.clamps;
+            next = reply.next;
         }
     }
-    println!("\n{number} areas with {test} next to a norm: {clamps} clamps");
-    assert!(clamps > 0, "the norms that clamp were not reached");
 }
 
 #[test]
 fn two_rows_next_to_a_norm_agree() {
-    compare_areas("two rows", 501, rows_near, [1, 20]);
+    let areas = Areas {
+        test: "two rows",
+        seed: 501,
+        make: rows_near,
+        rows: |turn: Turn| vec![turn.upper, turn.lower],
+        budgets: [1, 20],
+    };
+    areas.compare();
 }
 
 #[test]
 fn whole_columns_next_to_a_norm_agree() {
-    let area = |norm, outside, turn: Turn, random: &mut Random| {
-        columns_near(norm, outside, turn.column, random)
+    let areas = Areas {
+        test: "whole columns",
+        seed: 502,
+        make: |norm, outside, turn: Turn, random: &mut Random| {
+            columns_near(norm, outside, turn.column, random)
+        },
+        rows: |_| (0..ROWS).collect(),
+        budgets: [40, 120],
     };
-    compare_areas("whole columns", 502, area, [40, 120]);
+    areas.compare();
 }
 
 #[test]
 fn leading_words_at_the_end_of_the_range_agree() {
     let (mut below, mut at_end, mut clamped) = (0, 0, 0);
     for number in 0..4000 {
-        let case = Case::new("end of the range", 503, number, &[]);
+        let case = Case::of_words("end of the range", 503, number);
         let mut random = case.random();
         let length = (i32::MAX as u64) - random.below(40) as u64;
         let outside = random.one_in(2);

@@ -6,9 +6,10 @@
 //!
 //! Without an argument it takes the sample covariance, seen from the top of the repository.
 use std::env;
-use std::error::Error;
+use std::ffi::OsString;
 use std::fs::File;
-use std::io::{self, Read};
+use std::io::{self, ErrorKind, Read, Write};
+use std::path::Path;
 use std::process::ExitCode;
 
 use hubqr::{Refusal, AREA_WORDS, MATRIX_RECORD_BYTES, RESULT_RECORD_BYTES, TURNS};
@@ -16,44 +17,53 @@ use hubqr::{Refusal, AREA_WORDS, MATRIX_RECORD_BYTES, RESULT_RECORD_BYTES, TURNS
 const SAMPLE: &str = "examples/records/hermitian.bin";
 const INSTALMENT: u16 = 7;
 
+/// Why the program ends before it has printed R.
+enum Failure {
+    Record(io::Error),
+    Refused(Refusal),
+    Output(io::Error),
+}
+
+impl From<Refusal> for Failure {
+    fn from(refusal: Refusal) -> Failure {
+        Failure::Refused(refusal)
+    }
+}
+
 fn main() -> ExitCode {
-    let arguments: Vec<String> = env::args().skip(1).collect();
+    let arguments: Vec<OsString> = env::args_os().skip(1).collect();
     let path = match arguments.as_slice() {
-        [] => SAMPLE,
-        [path] => path,
+        [] => Path::new(SAMPLE),
+        [path] => Path::new(path),
         _ => {
             eprintln!("usage: instalments [RECORD]");
             return ExitCode::from(2);
         }
     };
-    match factor(path) {
+    match factor(path, &mut io::stdout().lock()) {
         Ok(()) => ExitCode::SUCCESS,
-        Err(error) => {
-            eprintln!("instalments: {path}: {}", described(error.as_ref()));
+        // A reader that stopped early, as `head` does, is no failure.
+        Err(Failure::Output(error)) if error.kind() == ErrorKind::BrokenPipe => ExitCode::SUCCESS,
+        Err(failure) => {
+            eprintln!("instalments: {}", described(path, &failure));
             ExitCode::from(1)
         }
     }
 }
 
-fn factor(path: &str) -> Result<(), Box<dyn Error>> {
-    let record = read_record(path)?;
+fn factor(path: &Path, output: &mut impl Write) -> Result<(), Failure> {
+    let record = read_record(path).map_err(Failure::Record)?;
     let mut area = [0; AREA_WORDS];
     let loaded = hubqr::load(&record, &mut area)?;
-    print_heard(loaded.heard);
-    let turn = work(loaded.turn, &mut area)?;
+    print_heard(loaded.heard, output).map_err(Failure::Output)?;
+    let turn = work(loaded.turn, &mut area, output)?;
     let mut result = [0; RESULT_RECORD_BYTES];
     hubqr::fetch(turn, &area, &mut result)?;
-    println!(
-        "result record: kind {:02X}, {} bytes",
-        result[0],
-        result.len()
-    );
-    print_r(&area);
-    Ok(())
+    print_result(&result, &area, output).map_err(Failure::Output)
 }
 
 /// Reads one byte more than a record has, if there is one, so that Load sees a file that is too long.
-fn read_record(path: &str) -> io::Result<Vec<u8>> {
+fn read_record(path: &Path) -> io::Result<Vec<u8>> {
     let mut record = Vec::new();
     let most = MATRIX_RECORD_BYTES as u64 + 1;
     File::open(path)?.take(most).read_to_end(&mut record)?;
@@ -61,16 +71,18 @@ fn read_record(path: &str) -> io::Result<Vec<u8>> {
 }
 
 /// Makes all turns in instalments and answers the turn number at the end.
-fn work(mut turn: u32, area: &mut [i32]) -> Result<u32, Refusal> {
+fn work(mut turn: u32, area: &mut [i32], output: &mut impl Write) -> Result<u32, Failure> {
     let mut rounds = 0;
     while turn < TURNS {
         let progress = hubqr::run(turn, INSTALMENT, area)?;
         turn = progress.next;
         other_work(&mut rounds);
-        println!(
+        writeln!(
+            output,
             "turn {turn:3} of {TURNS}, made {}, clamps {}, rounds of other work {rounds}",
             progress.made, progress.clamps
-        );
+        )
+        .map_err(Failure::Output)?;
     }
     Ok(turn)
 }
@@ -80,28 +92,36 @@ fn other_work(rounds: &mut u32) {
     *rounds += 1;
 }
 
-fn print_heard(heard: u8) {
-    print!("heard antennas:");
+fn print_heard(heard: u8, output: &mut impl Write) -> io::Result<()> {
+    write!(output, "heard antennas:")?;
     for antenna in (0..8).filter(|antenna| heard >> antenna & 1 == 1) {
-        print!(" {antenna}");
+        write!(output, " {antenna}")?;
     }
-    println!();
+    writeln!(output)
 }
 
-/// Prints R in steps of the 16-bit input.
-fn print_r(area: &[i32]) {
-    println!("R in steps of the 16-bit input:");
+/// Prints what the result record is, and R in steps of the 16-bit input.
+fn print_result(result: &[u8], area: &[i32], output: &mut impl Write) -> io::Result<()> {
+    let (kind, length) = (result[0], result.len());
+    writeln!(output, "result record: kind {kind:02X}, {length} bytes")?;
+    writeln!(output, "R in steps of the 16-bit input:")?;
     for row in area.chunks(32) {
         for &word in &row[..16] {
-            print!(" {:9.2}", f64::from(word) / 8192.0);
+            write!(output, " {:9.2}", f64::from(word) / 8192.0)?;
         }
-        println!();
+        writeln!(output)?;
     }
+    output.flush()
 }
 
-fn described(error: &(dyn Error + 'static)) -> String {
-    match error.downcast_ref::<Refusal>() {
-        Some(refusal) => format!("refused with number {}: {refusal}", refusal.number()),
-        None => error.to_string(),
+fn described(path: &Path, failure: &Failure) -> String {
+    let path = path.display();
+    match failure {
+        Failure::Record(error) => format!("{path}: {error}"),
+        Failure::Refused(refusal) => {
+            let number = refusal.number();
+            format!("{path}: refused with number {number}: {refusal}")
+        }
+        Failure::Output(error) => format!("standard output: {error}"),
     }
 }

@@ -6,8 +6,10 @@
 //! ```
 
 use std::env;
+use std::ffi::OsString;
 use std::fs;
 use std::io::{self, Write};
+use std::path::Path;
 use std::process::ExitCode;
 
 use reference::listing::{listing, SCRIPT};
@@ -30,13 +32,12 @@ fn main() -> ExitCode {
 }
 
 fn expected() -> Result<Vec<u8>, String> {
-    let words: Vec<String> = env::args().skip(1).collect();
-    let words: Vec<&str> = words.iter().map(String::as_str).collect();
-    match words[..] {
-        ["cases"] => Ok(listing(SCRIPT).into_bytes()),
-        ["whole", file] => match fs::read(file) {
+    let words: Vec<OsString> = env::args_os().skip(1).collect();
+    match words.as_slice() {
+        [word] if word == "cases" => Ok(listing(SCRIPT).into_bytes()),
+        [word, file] if word == "whole" => match fs::read(file) {
             Ok(record) => Ok(respond(&record)),
-            Err(error) => Err(format!("{file}: {error}")),
+            Err(error) => Err(format!("{}: {error}", Path::new(file).display())),
         },
         _ => Err(USAGE.into()),
     }

@@ -25,18 +25,25 @@ pub struct Case {
     pub test: &'static str,
     pub seed: u64,
     pub number: u64,
-    /// The record the case is about; empty if it is about none.
-    pub record: Vec<u8>,
+    /// The record the case is about, if it is about one.
+    pub record: Option<Vec<u8>>,
 }
 
 impl Case {
     pub fn new(test: &'static str, seed: u64, number: u64, record: &[u8]) -> Self {
-        let record = record.to_vec();
+        Case {
+            record: Some(record.to_vec()),
+            ..Case::of_words(test, seed, number)
+        }
+    }
+
+    /// A case that is about the words of an area and no record.
+    pub fn of_words(test: &'static str, seed: u64, number: u64) -> Self {
         Case {
             test,
             seed,
             number,
-            record,
+            record: None,
         }
     }
 
@@ -49,8 +56,11 @@ impl Case {
 impl Display for Case {
     fn fmt(&self, f: &mut fmt::Formatter) -> fmt::Result {
         write!(f, "{}, seed {}, case {}", self.test, self.seed, self.number)?;
-        write!(f, ", record of {} bytes: ", self.record.len())?;
-        self.record.iter().try_for_each(|b| write!(f, "{b:02X}"))
+        if let Some(record) = &self.record {
+            write!(f, ", record of {} bytes: ", record.len())?;
+            record.iter().try_for_each(|b| write!(f, "{b:02X}"))?;
+        }
+        Ok(())
     }
 }
 
@@ -58,6 +68,8 @@ impl Display for Case {
 /// made on both; a difference in the reply or in any word or byte of memory fails the test.
 pub struct Both {
     case: Case,
+    /// The words that the test put into the areas, if it did.
+    filled: Option<[i32; AREA_WORDS]>,
     area: Twin<i32>,
     buffer: Twin<u8>,
 }
@@ -69,7 +81,12 @@ impl Both {
         let area = Twin::new(AREA_WORDS + SPARE, || random.word());
         let mut random = Random::for_case(!case.seed, !case.number);
         let buffer = Twin::new(RESULT_RECORD + SPARE, || random.byte());
-        let mut both = Both { case, area, buffer };
+        let mut both = Both {
+            case,
+            filled: None,
+            area,
+            buffer,
+        };
         both.lend(AREA_WORDS, RESULT_RECORD);
         both
     }
@@ -88,6 +105,7 @@ impl Both {
     /// Puts words into both areas.
     pub fn fill_area(&mut self, words: &[i32; AREA_WORDS]) {
         self.area.fill(words);
+        self.filled = Some(*words);
     }
 
     /// The engine's area as rows and columns.
@@ -144,7 +162,7 @@ impl Both {
 
     /// Fails the test, naming the case, unless the condition holds.
     pub fn require(&self, condition: bool, otherwise: &str) {
-        assert!(condition, "{otherwise}\n{}", self.case);
+        assert!(condition, "{otherwise}\n{}", self.named());
     }
 
     fn compare<T: PartialEq + Debug>(&self, call: &str, engine: T, reference: T) {
@@ -163,7 +181,16 @@ impl Both {
         let (words, bytes) = self.lent();
         panic!(
             "{call}, {words} words and {bytes} bytes lent: {what}\n{}",
-            self.case
+            self.named()
         )
+    }
+
+    /// The case, and in hexadecimal the words that were put into the areas.
+    fn named(&self) -> String {
+        let case = self.case.to_string();
+        match &self.filled {
+            Some(words) => format!("{case}, area filled with {}", twin::hexadecimal(words)),
+            None => case,
+        }
     }
 }

@@ -1,9 +1,12 @@
 //! The same memory twice: one copy is lent to the engine, the other to the reference.
 
-use std::fmt::Debug;
+use std::fmt::UpperHex;
 
 /// Items around what is lent. An odd number leaves a lent buffer of bytes without alignment.
 const GUARD: usize = 7;
+
+/// Items shown on each side of a difference.
+const AROUND: usize = 2;
 
 pub struct Twin<T> {
     engine: Vec<T>,
@@ -11,7 +14,7 @@ pub struct Twin<T> {
     lent: usize,
 }
 
-impl<T: Copy + PartialEq + Debug> Twin<T> {
+impl<T: Copy + PartialEq + UpperHex> Twin<T> {
     /// Room for `capacity` items, with guards before and behind, and all of it lent.
     pub fn new(capacity: usize, item: impl FnMut() -> T) -> Self {
         let mut items = Vec::new();
@@ -56,15 +59,26 @@ impl<T: Copy + PartialEq + Debug> Twin<T> {
         &self.engine[GUARD..self.engine.len() - GUARD]
     }
 
-    /// The first place where the copies differ, guards included.
+    /// The first place where the copies differ, guards included, and what stands around it.
     pub fn difference(&self) -> Option<String> {
         if self.engine == self.reference {
             return None;
         }
-        let mut places = self.engine.iter().zip(&self.reference).enumerate();
-        places.find(|(_, (e, r))| e != r).map(|(k, (e, r))| {
-            let place = k as isize - GUARD as isize;
-            format!("at {place} engine {e:?}, reference {r:?}")
+        let mut places = self.engine.iter().zip(&self.reference);
+        places.position(|(e, r)| e != r).map(|k| {
+            let (start, end) = (k.saturating_sub(AROUND), k + AROUND + 1);
+            let shown = start..end.min(self.engine.len());
+            let [place, first] = [k, start].map(|k| k as isize - GUARD as isize);
+            let engine = hexadecimal(&self.engine[shown.clone()]);
+            let reference = hexadecimal(&self.reference[shown]);
+            format!("at {place}; from {first} on engine {engine}, reference {reference}")
         })
     }
+}
+
+/// Items in hexadecimal with blanks between them.
+pub fn hexadecimal<T: UpperHex>(items: &[T]) -> String {
+    let digits = 2 * size_of::<T>();
+    let items: Vec<String> = items.iter().map(|i| format!("{i:0digits$X}")).collect();
+    items.join(" ")
 }

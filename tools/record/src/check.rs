@@ -98,7 +98,7 @@ fn verdict(within: bool) -> &'static str {
 }
 
 fn line(name: &str, figure: &str, place: &str, share: &str, verdict: &str) -> String {
-    let text = format!("{name:<38}{figure:>22}   {place:<8}{share:>18}   {verdict}");
+    let text = format!("{name:<42}{figure:>22}   {place:<8}{share:>18}   {verdict}");
     text.trim_end().to_string() + "\n"
 }
 
@@ -110,6 +110,9 @@ fn figures_text(matrix: &Matrix, factors: &Factors) -> (String, bool) {
         let expected = if i == j { 1 << 60 } else { 0 };
         factors.q_row_products(i, j) - expected
     });
+    let columns = Worst::of(|i, j| {
+        factors.r_column_products(i, j) - (matrix.real_column_products(i, j) << 26)
+    });
     let broken = factors.rule_breaks();
     let under = Breaks {
         count: broken.under_diagonal.len(),
@@ -119,11 +122,13 @@ fn figures_text(matrix: &Matrix, factors: &Factors) -> (String, bool) {
         count: broken.negative_diagonal.len(),
         of: SIZE - 1,
     };
-    let in_order = product.within() && rows.within() && under.within() && negative.within();
+    let errors_within = product.within() && rows.within() && columns.within();
+    let in_order = errors_within && under.within() && negative.within();
     let text = [
         line("", "largest difference", "place", "of the limit 2^44", ""),
         product.line("Q times R from 2^43 times the input"),
         rows.line("products of Q's rows from 2^60 or 0"),
+        columns.line("products of R's columns from the input's"),
         under.line("R under the diagonal, words not 0"),
         negative.line("R's first 15 diagonal words, negative"),
         verdict_of_all(in_order).to_string(),

@@ -141,7 +141,9 @@ impl<'a> Cursor<'a> {
 
 fn out_of_range(written: &str, has_point: bool) -> String {
     if has_point {
-        format!("{written} is out of range: fractions go from -1.0 to 0.99997 (32767/32768)")
+        format!(
+            "{written} is out of range: times 32768 and rounded, fractions go from -32768 to 32767"
+        )
     } else {
         format!("{written} is out of range: whole numbers go from -32768 to 32767")
     }
@@ -207,18 +209,22 @@ mod tests {
             (1, 0)
         );
         assert_eq!(units("-1.00001"), (-32768, 0));
+        assert_eq!(units("0.9999847412109374"), (32767, 0), "the largest");
+        assert_eq!(units("-1.0000152587890624"), (-32768, 0), "the smallest");
         assert_eq!(units("0.-0.i"), (0, 0));
     }
 
     #[test]
     fn what_does_not_fit_is_named() {
         let whole = "whole numbers go from -32768 to 32767";
-        let fraction = "fractions go from -1.0 to 0.99997 (32767/32768)";
+        let fraction = "times 32768 and rounded, fractions go from -32768 to 32767";
         for (token, offset, written, range) in [
             ("32768", 0, "32768", whole),
             ("1-32769i", 1, "-32769", whole),
             ("99999999999999999999", 0, "99999999999999999999", whole),
             ("1.0", 0, "1.0", fraction),
+            ("0.9999847412109375", 0, "0.9999847412109375", fraction),
+            ("-1.0000152587890625", 0, "-1.0000152587890625", fraction),
             ("0.5+0.99999i", 3, "+0.99999", fraction),
             ("-70000.5", 0, "-70000.5", fraction),
         ] {

@@ -62,6 +62,12 @@ impl Factors {
         let product = |k: usize| i128::from(self.q[i][k]) * i128::from(self.q[j][k]);
         (0..SIZE).map(product).sum()
     }
+
+    /// The sum of products of columns i and j of R, exactly.
+    pub fn r_column_products(&self, i: usize, j: usize) -> i128 {
+        let product = |k: usize| i128::from(self.r[k][i]) * i128::from(self.r[k][j]);
+        (0..SIZE).map(product).sum()
+    }
 }
 
 /// All places (row, column), row by row.

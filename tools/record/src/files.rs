@@ -1,7 +1,7 @@
 //! Reading with a limit, and writing so that a failure leaves an existing file as it was.
 use std::ffi::{OsStr, OsString};
-use std::fs::{self, File, OpenOptions};
-use std::io::{self, Read, Write};
+use std::fs::{self, File, OpenOptions, Permissions};
+use std::io::{self, ErrorKind, Read, Write};
 use std::path::{Path, PathBuf};
 use std::process;
 
@@ -31,7 +31,7 @@ pub fn read_up_to(file: &OsStr, limit: usize) -> Result<Vec<u8>, Failure> {
     };
     match read {
         Ok(_) => Ok(bytes),
-        Err(error) => Err(Failure::Input(format!("{}: {error}", shown(file)))),
+        Err(error) => Err(failed(file, error)),
     }
 }
 
@@ -40,29 +40,64 @@ fn take(source: impl Read, limit: usize, bytes: &mut Vec<u8>) -> io::Result<usiz
 }
 
 /// Writes a file under another name beside it and renames that, so that the file is either as
-/// before or complete.
+/// before or complete. An existing file has to be a regular one that may be written, and its
+/// permissions stay.
 pub fn replace(file: &OsStr, bytes: &[u8]) -> Result<(), Failure> {
-    let failed = |error: io::Error| Failure::Input(format!("{}: {error}", shown(file)));
-    // A link is followed, so that the file behind it is replaced and not the link.
-    let target = fs::canonicalize(file).unwrap_or_else(|_| PathBuf::from(file));
-    if target.exists() && !target.is_file() {
-        let message = format!("{}: not a regular file", shown(file));
-        return Err(Failure::Input(message));
-    }
-    let beside = name_beside(&target);
-    let mut new = OpenOptions::new()
-        .write(true)
-        .create_new(true)
-        .open(&beside)
-        .map_err(failed)?;
-    let written = new.write_all(bytes).and_then(|()| new.sync_all());
+    let permissions = replaceable(file)?;
+    let target = Path::new(file);
+    let beside = name_beside(target);
+    let written = write_new(&beside, bytes, permissions);
     written
-        .and_then(|()| fs::rename(&beside, &target))
+        .and_then(|()| fs::rename(&beside, target))
         .map_err(|error| {
             // The first error is the one to report; what is left here is only litter.
-            let _ = fs::remove_file(&beside);
-            failed(error)
+            if error.kind() != ErrorKind::AlreadyExists {
+                let _ = fs::remove_file(&beside);
+            }
+            failed(file, error)
         })
+}
+
+/// Whether two names lead to the same existing file.
+pub fn same_file(one: &OsStr, other: &OsStr) -> bool {
+    match (fs::canonicalize(one), fs::canonicalize(other)) {
+        (Ok(one), Ok(other)) => one == other,
+        _ => false,
+    }
+}
+
+/// The permissions of a file that may be replaced, or none where there is no file yet.
+fn replaceable(file: &OsStr) -> Result<Option<Permissions>, Failure> {
+    let refused = |why: &str| Err(Failure::Input(format!("{}: {why}", shown(file))));
+    // Links are not followed: what stands behind them is not to be replaced by accident.
+    let found = match fs::symlink_metadata(file) {
+        Ok(found) => found,
+        Err(error) if error.kind() == ErrorKind::NotFound => return Ok(None),
+        Err(error) => return Err(failed(file, error)),
+    };
+    if !found.is_file() {
+        return refused("not a regular file; '-' stands for standard output");
+    }
+    if found.permissions().readonly() {
+        return refused("read-only");
+    }
+    // Opening changes nothing, and fails where the file is not ours to write.
+    let opened = OpenOptions::new().write(true).open(file);
+    opened.map_err(|error| failed(file, error))?;
+    Ok(Some(found.permissions()))
+}
+
+fn write_new(file: &Path, bytes: &[u8], permissions: Option<Permissions>) -> io::Result<()> {
+    let mut new = OpenOptions::new().write(true).create_new(true).open(file)?;
+    if let Some(permissions) = permissions {
+        new.set_permissions(permissions)?;
+    }
+    new.write_all(bytes)?;
+    new.sync_all()
+}
+
+fn failed(file: &OsStr, error: io::Error) -> Failure {
+    Failure::Input(format!("{}: {error}", shown(file)))
 }
 
 /// A hidden name in the target's folder that no other process uses.

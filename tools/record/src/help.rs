@@ -25,8 +25,11 @@ empty lines are skipped.
 A number is a real part, an imaginary part that ends in i or j, or both without blanks: 12, -5i,
 -123+45i. The parts of a file are of one kind; zero fits both:
   whole numbers       units of 1/32768, from -32768 to 32767, as in -123+45i
-  decimal fractions   parts of one, at least -1.0 and under 1.0, as in 0.5-0.25i, rounded to the
-                      nearest unit (halves away from zero)
+  decimal fractions   parts of one, as in 0.5-0.25i; times 32768 and rounded to the nearest whole
+                      number (halves away from zero) they go from -32768 to 32767
+
+OUT.bin is a new file or an existing one, which keeps its permissions. A link, a device or a folder is
+refused, and so are a read-only file and IN.txt itself. For standard output give '-'.
 
 When anything is wrong, OUT.bin is not written, and a file of that name stays as it was.
 ";
@@ -51,6 +54,7 @@ Computes with exact whole numbers how far the result record RESULT is from facto
 MATRIX, and shows each figure against its limit:
   every entry of Q times R       within 2^44 of 2^43 times the entry of the input made real, 16 by 16
   every two rows of Q            their sum of products within 2^44 of 2^60 (a row with itself) or of 0
+  every two columns of R         their sum of products within 2^44 of 2^26 times that of the input's
   R                              0 under the diagonal, its first 15 diagonal words not negative
 
 Exit status: 0 when all are within their limits, 1 when one is not or a file is no such record.

@@ -63,4 +63,10 @@ impl Matrix {
             (false, true) => i32::from(element.imaginary),
         }
     }
+
+    /// The sum of products of columns i and j of the matrix made real.
+    pub fn real_column_products(&self, i: usize, j: usize) -> i128 {
+        let entry = |k: usize, column: usize| i128::from(self.real_entry(k, column));
+        (0..2 * SIZE).map(|k| entry(k, i) * entry(k, j)).sum()
+    }
 }

@@ -16,6 +16,8 @@ pub fn pack(input: &OsStr, output: &OsStr) -> Result<Report, Failure> {
     let record = matrix.to_record();
     let mut report = if files::is_standard(output) {
         Report::new(record, true)
+    } else if !files::is_standard(input) && files::same_file(input, output) {
+        return Err(named(output, "the input and the output are the same file"));
     } else {
         files::replace(output, &record)?;
         Report::new(confirmation(output, &matrix), true)

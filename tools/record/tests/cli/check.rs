@@ -6,15 +6,15 @@ fn check(folder: &Folder, matrix: &[u8], result: &[u8]) -> Outcome {
     folder.run(&["check", "m.bin", "r.bin"])
 }
 
-/// The verdicts in the last column of the four figures.
+/// The verdicts in the last column of the five figures.
 fn verdicts(outcome: &Outcome) -> Vec<&str> {
-    let figures = outcome.text().lines().skip(1).take(4);
+    let figures = outcome.text().lines().skip(1).take(5);
     figures
         .map(|line| line.split(' ').next_back().unwrap())
         .collect()
 }
 
-const ALL_WITHIN: [&str; 4] = ["within"; 4];
+const ALL_WITHIN: [&str; 5] = ["within"; 5];
 
 #[test]
 fn what_the_engine_makes_is_within_its_limits() {
@@ -65,6 +65,42 @@ fn the_limits_are_met_exactly() {
     }
 }
 
+/// (2^28 - 2^14 + 2^15)^2 is just 2^44 above (2^28 - 2^14)^2.
+#[test]
+fn the_limit_of_the_columns_of_r_is_met_exactly() {
+    let folder = Folder::new("check-columns");
+    let matrix = matrix_record(32766, (0, 0));
+    let exact = diagonal_result(32766 << 13, 1 << 30);
+    for (summand, figure, place, verdict) in [
+        (0, "0", "(15, 15)", "within"),
+        (1 << 15, "17592186044416", "(3, 3)", "within"),
+        ((1 << 15) + 1, "17592722948097", "(3, 3)", "OUTSIDE"),
+    ] {
+        let mut result = exact.clone();
+        add_to_word(&mut result, 3 * 17, summand);
+        let outcome = check(&folder, &matrix, &result);
+        let line = outcome.text().lines().nth(3).unwrap();
+        let name = "products of R's columns from the input's";
+        assert!(line.starts_with(name), "{line}");
+        assert!(line.contains(&format!(" {figure}   {place} ")), "{line}");
+        assert_eq!(verdicts(&outcome)[2], verdict);
+    }
+}
+
+#[test]
+fn the_columns_of_r_are_compared_in_pairs() {
+    let folder = Folder::new("check-pairs");
+    let matrix = matrix_record(32767, (0, 0));
+    let mut result = diagonal_result(32767 << 13, 1 << 30);
+    add_to_word(&mut result, 2 * 16 + 9, -(1 << 17));
+    let outcome = check(&folder, &matrix, &result);
+    let line = outcome.text().lines().nth(3).unwrap();
+    let difference = (32767_i64 << 13) << 17;
+    assert!(line.contains(&format!(" {difference}   (9, 2) ")), "{line}");
+    assert_eq!(verdicts(&outcome)[2], "OUTSIDE");
+    assert_eq!(outcome.status, 1);
+}
+
 #[test]
 fn the_rules_of_r_are_counted() {
     let folder = Folder::new("check-rules");
@@ -75,7 +111,7 @@ fn the_rules_of_r_are_counted() {
     let outcome = check(&folder, &matrix, &result);
     assert_eq!(
         verdicts(&outcome),
-        ["within", "within", "OUTSIDE", "within"]
+        ["within", "within", "within", "OUTSIDE", "within"]
     );
     assert!(
         outcome.text().contains(" 2   of 120 "),
@@ -88,7 +124,7 @@ fn the_rules_of_r_are_counted() {
     let outcome = check(&folder, &matrix, &negative);
     assert_eq!(
         verdicts(&outcome),
-        ["within", "within", "within", "OUTSIDE"]
+        ["within", "within", "within", "within", "OUTSIDE"]
     );
     assert!(
         outcome.text().contains(" 15   of 15 "),

@@ -1,3 +1,6 @@
+use std::fs;
+use std::os::unix::fs::symlink;
+
 use crate::tool::{matrix_record, Folder};
 
 /// Eight lines with `diagonal` on the diagonal, 0 elsewhere, and `corner` as the last of line 0.
@@ -72,7 +75,7 @@ fn bad_text_is_pointed_at_and_nothing_is_written() {
     folder.write("old.bin", "as it was");
     for (content, message) in [
         (text("1", "32768"), "line 1, column 22: 32768 is out of range: whole numbers go from -32768 to 32767"),
-        (text("0.5", "1.0"), "line 1, column 24: 1.0 is out of range: fractions go from -1.0 to 0.99997 (32767/32768)"),
+        (text("0.5", "1.0"), "line 1, column 24: 1.0 is out of range: times 32768 and rounded, fractions go from -32768 to 32767"),
         (text("1", "1+2k"), "line 1, column 25: 'i' behind the imaginary part expected, found 'k'"),
         (text("1", "2 3"), "line 1, column 24: a ninth number in row 0, a row has 8"),
         (text("1", ""), "line 1, column 20: row 0 ends after 7 numbers, 8 are needed"),
@@ -119,7 +122,10 @@ fn a_place_that_takes_no_file_is_left_alone() {
     folder.write("in.txt", text("1", "2"));
     folder.make_folder("folder");
     for (target, message) in [
-        ("folder", "folder: not a regular file"),
+        (
+            "folder",
+            "folder: not a regular file; '-' stands for standard output",
+        ),
         (
             "absent/out.bin",
             "absent/out.bin: No such file or directory (os error 2)",
@@ -140,4 +146,88 @@ fn an_existing_file_is_replaced_and_no_litter_stays() {
     assert_eq!(folder.run(&["pack", "in.txt", "out.bin"]).status, 0);
     assert_eq!(folder.read("out.bin"), matrix_record(1, (2, 0)));
     assert_eq!(folder.names(), ["in.txt", "out.bin"]);
+}
+
+#[test]
+fn links_and_devices_are_refused_and_stay() {
+    let folder = Folder::new("pack-links");
+    folder.write("in.txt", text("1", "2"));
+    folder.write("old.bin", "as it was");
+    symlink("old.bin", folder.path("link")).unwrap();
+    symlink("absent.bin", folder.path("dangling")).unwrap();
+    for target in ["link", "dangling", "/dev/stdout", "/dev/null"] {
+        let outcome = folder.run(&["pack", "in.txt", target]);
+        let message = "not a regular file; '-' stands for standard output";
+        assert_eq!(outcome.stderr, format!("record: {target}: {message}\n"));
+        assert_eq!((outcome.status, outcome.text()), (1, ""));
+    }
+    assert_eq!(folder.names(), ["dangling", "in.txt", "link", "old.bin"]);
+    assert_eq!(folder.read("old.bin"), b"as it was");
+    for link in ["link", "dangling"] {
+        assert!(fs::symlink_metadata(folder.path(link))
+            .unwrap()
+            .is_symlink());
+    }
+}
+
+#[test]
+fn a_log_behind_dev_stdout_stays() {
+    let folder = Folder::new("pack-log");
+    folder.write("in.txt", text("1", "2"));
+    folder.write("log.txt", "a line\n");
+    let log = fs::OpenOptions::new()
+        .append(true)
+        .open(folder.path("log.txt"))
+        .unwrap();
+    let status = folder
+        .command(&["pack", "in.txt", "/dev/stdout"])
+        .stdout(log)
+        .status();
+    assert_eq!(status.unwrap().code(), Some(1));
+    assert_eq!(folder.read("log.txt"), b"a line\n");
+}
+
+#[test]
+fn the_input_is_not_overwritten() {
+    let folder = Folder::new("pack-itself");
+    let content = text("1", "2");
+    folder.write("in.txt", &content);
+    symlink("in.txt", folder.path("link")).unwrap();
+    for (input, output) in [
+        ("in.txt", "in.txt"),
+        ("in.txt", "./in.txt"),
+        ("link", "in.txt"),
+    ] {
+        let outcome = folder.run(&["pack", input, output]);
+        let message = format!("{output}: the input and the output are the same file");
+        assert_eq!(outcome.stderr, format!("record: {message}\n"));
+        assert_eq!(outcome.status, 1);
+        assert_eq!(folder.read("in.txt"), content.as_bytes());
+    }
+}
+
+#[test]
+fn a_read_only_file_is_refused_and_stays() {
+    let folder = Folder::new("pack-read-only");
+    folder.write("in.txt", text("1", "2"));
+    folder.write("old.bin", "as it was");
+    folder.set_mode("old.bin", 0o444);
+    let outcome = folder.run(&["pack", "in.txt", "old.bin"]);
+    assert_eq!(outcome.stderr, "record: old.bin: read-only\n");
+    assert_eq!(outcome.status, 1);
+    assert_eq!(folder.read("old.bin"), b"as it was");
+    assert_eq!(folder.names(), ["in.txt", "old.bin"]);
+}
+
+#[test]
+fn a_replaced_file_keeps_its_permissions() {
+    let folder = Folder::new("pack-permissions");
+    folder.write("in.txt", text("1", "2"));
+    for mode in [0o600, 0o666, 0o640] {
+        folder.write("out.bin", "as it was");
+        folder.set_mode("out.bin", mode);
+        assert_eq!(folder.run(&["pack", "in.txt", "out.bin"]).status, 0);
+        assert_eq!(folder.read("out.bin"), matrix_record(1, (2, 0)));
+        assert_eq!(folder.mode("out.bin"), mode);
+    }
 }

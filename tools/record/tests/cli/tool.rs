@@ -1,6 +1,7 @@
 //! Running the program in a folder of its own, and records to give it.
 use std::fs;
 use std::io::Write;
+use std::os::unix::fs::PermissionsExt;
 use std::path::PathBuf;
 use std::process::{Command, Stdio};
 
@@ -35,6 +36,19 @@ impl Folder {
         Folder { path }
     }
 
+    pub fn path(&self, name: &str) -> PathBuf {
+        self.path.join(name)
+    }
+
+    pub fn set_mode(&self, name: &str, mode: u32) {
+        fs::set_permissions(self.path.join(name), fs::Permissions::from_mode(mode)).unwrap();
+    }
+
+    pub fn mode(&self, name: &str) -> u32 {
+        let found = fs::metadata(self.path.join(name)).unwrap();
+        found.permissions().mode() & 0o777
+    }
+
     pub fn write(&self, name: &str, content: impl AsRef<[u8]>) {
         fs::write(self.path.join(name), content).unwrap();
     }
@@ -58,14 +72,20 @@ impl Folder {
         names
     }
 
+    /// The program with these arguments, in the folder.
+    pub fn command(&self, arguments: &[&str]) -> Command {
+        let mut command = Command::new(env!("CARGO_BIN_EXE_record"));
+        command.args(arguments).current_dir(&self.path);
+        command
+    }
+
     pub fn run(&self, arguments: &[&str]) -> Outcome {
         self.run_with_input(arguments, &[])
     }
 
     pub fn run_with_input(&self, arguments: &[&str], input: &[u8]) -> Outcome {
-        let mut child = Command::new(env!("CARGO_BIN_EXE_record"))
-            .args(arguments)
-            .current_dir(&self.path)
+        let mut child = self
+            .command(arguments)
             .stdin(Stdio::piped())
             .stdout(Stdio::piped())
             .stderr(Stdio::piped())
