@@ -19,7 +19,7 @@ use Rattle.schedule.specs.Schedule.{rotationAt}
 use Rattle.records.specs.Matrix.{realEntry, loadedAt}
 use Rattle.records.specs.Result.{Matrix}
 use Rattle.records.proofs.LoadLaws.{entry-small}
-use Rattle.accuracy.specs.Demand3.{Factored}
+use Rattle.accuracy.specs.Demand3.{Factorization}
 use Rattle.accuracy.proofs.Grid.{gram, Rotated}
 use Rattle.accuracy.proofs.Gram.{gram-kept, triangular, diagonal-nonneg}
 
@@ -97,7 +97,7 @@ module _ (rec : List ℕ) where
       start a h = subst (λ x. natAbs x ≤ 2 ^ 60) (sym (gram-load a a h h)) (loaded-short a h)
 
       -- the words at the end: R's word (i, j) is row i, column j, and Q's is row j, column 16 + i
-      pub accurate : Factored (realEntry rec) (W 120) (λ i j. W 120 j (16 + i))
+      pub accurate : Factorization (realEntry rec) (W 120) (λ i j. W 120 j (16 + i))
       accurate = record {
         triangular = triangular W rotated start;
         diagonal = diagonal-nonneg W rotated start;

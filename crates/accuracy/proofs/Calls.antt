@@ -17,7 +17,7 @@ use Rattle.engine.specs.Run.{RunOutcome, runMade, runBy, runOf, runReply}
 use Rattle.engine.specs.Fetch.{fetchRefusal, fetchBy, fetchOf}
 use Rattle.engine.specs.declared.run.RunAnswer.the-variants.{Refused}
 use Rattle.engine.proofs.Tests.{load-accepted, fetch-accepted, fetch-passes}
-use Rattle.accuracy.specs.Demand3.{Lent, loaded, other, RunCall, FetchCall, Call, run, fetch, State, wordsOf, leftIn, ran, reply, fetched, refusal, Accepted, InStep, moved, after, afterAll, Load, start, Place, Point, found, reached, EachInStep, Factored, workspaceAfter, Demand3}
+use Rattle.accuracy.specs.Demand3.{Lent, loaded, other, RunCall, FetchCall, Call, run, fetch, State, wordsOf, leftIn, ran, reply, fetched, refusal, Accepted, InStep, moved, after, afterAll, Load, start, Place, Point, found, reached, EachInStep, Factorization, workspaceAfter, Demand3}
 use Rattle.accuracy.proofs.Rotations.{after-none, after-length, after-more, made-unsaturated, more-unsaturated}
 use Rattle.accuracy.proofs.Loading.{loaded-room, loaded-short, loaded-factored}
 use Rattle.accuracy.proofs.Finished.{finished}
@@ -55,7 +55,7 @@ module _ (l : Load) where
   rotations-none = more-unsaturated (first l) room (loaded-short (l .bytes) (l .small) (l .lent) lent-room)
 
   -- the workspace after all rotations
-  done : Factored (realEntry (l .bytes)) (R (workspaceAfter (first l) 120)) (Q (workspaceAfter (first l) 120))
+  done : Factorization (realEntry (l .bytes)) (R (workspaceAfter (first l) 120)) (Q (workspaceAfter (first l) 120))
   done = loaded-factored (l .bytes) (l .small) (l .lent) lent-room
 
 -- ---- what holds between two calls
@@ -93,7 +93,7 @@ module _ (l : Load) (s : State) (h : Holds l s) where
   worked : 120 ≤ s .granted → s .workspace ≡ workspaceAfter (first l) 120
   worked k = let e : min 120 (s .granted) ≡ 120 = omega arith in h .workspace ∙ ap (workspaceAfter (first l)) e
 
-  factored-at : 120 ≤ s .granted → Factored (realEntry (l .bytes)) (R (s .workspace)) (Q (s .workspace))
+  factored-at : 120 ≤ s .granted → Factorization (realEntry (l .bytes)) (R (s .workspace)) (Q (s .workspace))
   factored-at k = rw (worked k) (done l)
 
   pub fetch-iff : (f : FetchCall) → InStep s (fetch f) → Accepted s (fetch f) ↔ ((120 ≤ s .granted) × (2049 ≤ length (f .buffer)))

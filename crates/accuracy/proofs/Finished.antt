@@ -14,13 +14,13 @@ use lib.ListN.{getD}
 use Rattle.lists.proofs.Passing.{all-of}
 use Rattle.records.specs.Matrix.{isZero}
 use Rattle.records.specs.Result.{Matrix, R, Q, wordIn, isFinishedAt, isFinished}
-use Rattle.accuracy.specs.Demand3.{Factored}
+use Rattle.accuracy.specs.Demand3.{Factorization}
 
 is-true : (b : Bool) → T b → b ≡ true
 is-true true t = refl
 is-true false t = absurd t
 
-module _ (a : Matrix) (w : List ℤ) (f : Factored a (R w) (Q w)) where
+module _ (a : Matrix) (w : List ℤ) (f : Factorization a (R w) (Q w)) where
   finished-at : (i j : ℕ) → i < 16 → isFinishedAt i j (R w i j) ≡ true
   unfolding isFinishedAt
   finished-at i j h = pick (decLt j i) (ℕ-discrete i j) (decLt i 15)

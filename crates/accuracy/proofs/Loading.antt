@@ -9,7 +9,7 @@ use Rattle.records.specs.Matrix.{realEntry, loadedAt, loadedWord, loadedWords}
 use Rattle.records.proofs.LoadLaws.{loaded-at}
 use Rattle.records.specs.Result.{R, Q, wordIn}
 use Rattle.accuracy.proofs.Accurate.{start, accurate}
-use Rattle.accuracy.specs.Demand3.{Factored, workspaceAfter}
+use Rattle.accuracy.specs.Demand3.{Factorization, workspaceAfter}
 use Rattle.accuracy.proofs.Grid.{gram}
 use Rattle.accuracy.proofs.Rotations.{after-none, after-rotated}
 
@@ -26,6 +26,6 @@ module _ (rec : List ℕ) (bytes : (k : ℕ) → getD rec k 0 < 256) (lent : Lis
   loaded-short = start rec bytes (λ (k : ℕ). wordIn (workspaceAfter (loadedWords rec lent) k)) load-at (after-rotated (loadedWords rec lent) loaded-room)
 
   -- and accurate at the end
-  pub loaded-factored : Factored (realEntry rec) (R (workspaceAfter (loadedWords rec lent) 120)) (Q (workspaceAfter (loadedWords rec lent) 120))
+  pub loaded-factored : Factorization (realEntry rec) (R (workspaceAfter (loadedWords rec lent) 120)) (Q (workspaceAfter (loadedWords rec lent) 120))
   unfolding R Q
   loaded-factored = accurate rec bytes (λ (k : ℕ). wordIn (workspaceAfter (loadedWords rec lent) k)) load-at (after-rotated (loadedWords rec lent) loaded-room)

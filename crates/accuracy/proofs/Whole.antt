@@ -12,7 +12,7 @@ use Rattle.engine.specs.Load.{loadOf, loadBy, loadReply}
 use Rattle.engine.specs.Run.{RunOutcome, runMade, runReply}
 use Rattle.engine.specs.Whole.{WholeOutcome, wholeRefusal, wholeDone, wholeBy, wholeOf, WholeReply, wholeReply}
 use Rattle.engine.proofs.Tests.{whole-accepted}
-use Rattle.accuracy.specs.Demand3.{run, fetch, State, fetched, afterAll, Load, start, reply, Factored, Kept, wholeRun, wholeFetch, wholeCalls, WholeKept, WholeDemand3}
+use Rattle.accuracy.specs.Demand3.{run, fetch, State, fetched, afterAll, Load, start, reply, Factorization, Kept, wholeRun, wholeFetch, wholeCalls, WholeKept, WholeDemand3}
 use Rattle.accuracy.proofs.Calls.{first, start-is, fetch-written, demand3}
 use Rattle.accuracy.proofs.Possible.{ended, ended-is, run-made, fetch-in-step, fetch-taken, alone}
 
@@ -51,7 +51,7 @@ module _ (l : Load) (buffer : List ℕ) (space : 2049 ≤ length buffer) (passed
   unfolding afterAll
   no-clamps = ap (λ (w : WholeReply). w .clamps) answer ∙ kept .no-run-clamps wholeRun (record { before = []; rest = fetch (wholeFetch buffer) ∷ []; is = refl })
 
-  factored : Factored (realEntry (l .bytes)) (R (wholeOf (l .bytes) (l .lent) buffer .workspace)) (Q (wholeOf (l .bytes) (l .lent) buffer .workspace))
+  factored : Factorization (realEntry (l .bytes)) (R (wholeOf (l .bytes) (l .lent) buffer .workspace)) (Q (wholeOf (l .bytes) (l .lent) buffer .workspace))
   unfolding afterAll
   factored =
       let g : ended l .granted ≡ 120 = ap (λ (s : State). s .granted) (ended-is l) in

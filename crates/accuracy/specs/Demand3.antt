@@ -157,7 +157,7 @@ EachInStep l calls = (c : Call) (p : Place c calls) → Accepted (found l p) c �
 -- ---- the promise
 
 -- the matrix a is worked to the end as q times r. The bounds are for every i and j from 0 to 15, and sums are exact
-pub record Factored (a r q : Matrix) : Type 0 where
+pub record Factorization (a r q : Matrix) : Type 0 where
   -- R is upper triangular with its first fifteen diagonal words not negative
   pub triangular : (i j : ℕ) → j < i → i < 16 → r i j ≡ pos 0
   pub diagonal : (j : ℕ) → j < 15 → pos 0 ≤ℤ r j j
@@ -186,7 +186,7 @@ pub record Kept (l : Load) (calls : List Call) : Type 0 where
   pub words : (p : Point calls) → reached l p .workspace ≡ workspaceAfter (start l .workspace) (min 120 (reached l p .granted))
   -- once the allowances make 120 or more, the matrix is worked to the end
   pub factored : (p : Point calls) → 120 ≤ reached l p .granted
-      → Factored (realEntry (l .bytes)) (R (reached l p .workspace)) (Q (reached l p .workspace))
+      → Factorization (realEntry (l .bytes)) (R (reached l p .workspace)) (Q (reached l p .workspace))
   -- every accepted Fetch writes the result record of this Q and R, and leaves the rest of its buffer
   pub written : (f : FetchCall) (p : Place (fetch f) calls) → Accepted (found l p) (fetch f)
       → fetched (found l p) f ≡ resultRecord (R (found l p .workspace)) (Q (found l p .workspace)) ++ drop 2049 (f .buffer)
@@ -216,7 +216,7 @@ pub record WholeKept (l : Load) (buffer : List ℕ) : Type 0 where
   pub written : wholeOf (l .bytes) (l .lent) buffer .buffer ≡ fetched (after (start l) (run wholeRun)) (wholeFetch buffer)
   -- so all of demand 3 holds of what Whole leaves: no word is clamped, and the matrix is worked to the end
   pub no-clamps : wholeReply (wholeOf (l .bytes) (l .lent) buffer .answer) .clamps ≡ 0
-  pub factored : Factored (realEntry (l .bytes)) (R (wholeOf (l .bytes) (l .lent) buffer .workspace)) (Q (wholeOf (l .bytes) (l .lent) buffer .workspace))
+  pub factored : Factorization (realEntry (l .bytes)) (R (wholeOf (l .bytes) (l .lent) buffer .workspace)) (Q (wholeOf (l .bytes) (l .lent) buffer .workspace))
 
 abbrev pub WholeDemand3 : Type 0
 WholeDemand3 = (bytes : List ℕ) (lent : List ℤ) (buffer : List ℕ) (small : (k : ℕ) → getD bytes k 0 < 256) → wholeRefusal bytes lent buffer ≡ 0
