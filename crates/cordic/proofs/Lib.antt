@@ -1,4 +1,5 @@
--- What the micro-rotations do to any 32-bit words, and the error of one rotation.
+-- The gain, what the micro-rotations do to any 32-bit words, and the error of one rotation.
+pub mod Gain
 pub mod Growth
 pub mod Words
 pub mod Step
