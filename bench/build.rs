@@ -2,6 +2,7 @@
 //! clang; the comparators in double where LAPACK or Eigen is installed; and an earlier archive of
 //! the engine where `HUBQR_EARLIER` names one. What is there becomes a `cfg` of that name.
 use std::env;
+use std::ffi::OsStr;
 use std::path::{Path, PathBuf};
 use std::process::Command;
 
@@ -10,15 +11,6 @@ const VERSIONS: [(&str, &[&str]); 3] = [
     ("plain", &["plain.c", "calls.c"]),
     ("wide", &["wide.c", "calls.c"]),
     ("narrow", &["narrow.c", "wide.c", "calls.c"]),
-];
-
-/// What `libhubqr.a` exports, under other names in an earlier archive.
-const EXPORTS: [&str; 5] = [
-    "hubqr_load",
-    "hubqr_run",
-    "hubqr_fetch",
-    "hubqr_read",
-    "hubqr_whole",
 ];
 
 fn main() {
@@ -105,19 +97,37 @@ fn eigen(folder: &Path) -> bool {
     true
 }
 
-/// An earlier archive of the engine with other names for its calls, if one is named.
+/// An earlier archive of the engine with other names for its calls, if one is named. It has to
+/// answer by value, as this one does; an archive that tells no version answers through pointers, and
+/// to call it in this way would do anything.
 fn earlier(folder: &Path) -> bool {
     let Some(path) = env::var_os("HUBQR_EARLIER") else {
         return false;
     };
     println!("cargo:rerun-if-changed={}", Path::new(&path).display());
+    let names = exports(&path);
+    if !names.iter().any(|name| name == "hubqr_version") {
+        panic!("{path:?} has no hubqr_version, so its calls are not those of this benchmark");
+    }
     let mut rename = Command::new("objcopy");
-    for name in EXPORTS {
+    for name in names {
         rename.arg(format!("--redefine-sym={name}=earlier_{name}"));
     }
     needed(rename.arg(path).arg(folder.join("libearlier.a")));
     println!("cargo:rustc-link-lib=static=earlier");
     true
+}
+
+/// What an archive of the engine exports: the third column of each line that nm prints.
+fn exports(archive: &OsStr) -> Vec<String> {
+    let listed = needed(
+        Command::new("nm")
+            .args(["-g", "--defined-only"])
+            .arg(archive),
+    );
+    let names = listed.lines().filter_map(|l| l.split_whitespace().nth(2));
+    let exports = names.filter(|name| name.starts_with("hubqr_"));
+    exports.map(String::from).collect()
 }
 
 fn compile(compiler: &str, flags: &[&str], source: &str, object: &Path) {
@@ -135,20 +145,21 @@ fn archive(folder: &Path, name: &str, objects: &[PathBuf]) {
     println!("cargo:rustc-link-lib=static={name}");
 }
 
-/// Runs a command that has to succeed and answers its messages.
+/// Runs a command that has to succeed and answers what it printed.
 fn needed(command: &mut Command) -> String {
     run(command).unwrap_or_else(|error| panic!("{error}"))
 }
 
-/// Runs a command and answers its messages, or why it failed.
+/// Runs a command and answers what it printed, or why it failed.
 fn run(command: &mut Command) -> Result<String, String> {
     let output = command
         .output()
         .map_err(|error| format!("{command:?}: {error}"))?;
-    let messages = String::from_utf8_lossy(&output.stderr).into_owned();
+    let printed = [output.stdout, output.stderr].concat();
+    let printed = String::from_utf8_lossy(&printed).into_owned();
     if output.status.success() {
-        Ok(messages)
+        Ok(printed)
     } else {
-        Err(format!("{command:?}: {messages}"))
+        Err(format!("{command:?}: {printed}"))
     }
 }

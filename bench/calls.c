@@ -80,11 +80,12 @@ void NAME(fetch)(const int32_t *area, uint8_t *buffer)
     }
 }
 
-/* Load, all turns and Fetch. Answers the clamps. */
-uint32_t NAME(whole)(const uint8_t *record, int32_t *area, uint8_t *buffer, uint8_t *heard)
+/* Load, all turns and Fetch. */
+struct whole_reply NAME(whole)(const uint8_t *record, int32_t *area, uint8_t *buffer)
 {
-    *heard = NAME(load)(record, area);
-    uint32_t clamps = NAME(run)(0, TURNS, area);
+    struct whole_reply reply;
+    reply.heard = NAME(load)(record, area);
+    reply.clamps = NAME(run)(0, TURNS, area);
     NAME(fetch)(area, buffer);
-    return clamps;
+    return reply;
 }

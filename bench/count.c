@@ -19,18 +19,18 @@ static void draw(uint8_t *record)
 
 static int in_parts(const uint8_t *record)
 {
-    uint8_t heard;
-    uint32_t turn, made, clamps;
-    return hubqr_load(record, HUBQR_MATRIX_RECORD_BYTES, area, HUBQR_AREA_WORDS, &turn, &heard) == HUBQR_ACCEPTED
-        && hubqr_run(turn, HUBQR_TURNS, area, HUBQR_AREA_WORDS, &turn, &made, &clamps) == HUBQR_ACCEPTED
-        && hubqr_fetch(turn, area, HUBQR_AREA_WORDS, buffer, sizeof buffer) == HUBQR_ACCEPTED;
+    struct hubqr_load_reply loaded = hubqr_load(record, HUBQR_MATRIX_RECORD_BYTES, area, HUBQR_AREA_WORDS);
+    if (loaded.number != HUBQR_ACCEPTED) {
+        return 0;
+    }
+    struct hubqr_run_reply ran = hubqr_run(loaded.turn, HUBQR_TURNS, area, HUBQR_AREA_WORDS);
+    return ran.number == HUBQR_ACCEPTED
+        && hubqr_fetch(ran.turn, area, HUBQR_AREA_WORDS, buffer, sizeof buffer) == HUBQR_ACCEPTED;
 }
 
 static int at_once(const uint8_t *record)
 {
-    uint8_t heard;
-    uint32_t clamps;
-    return hubqr_whole(record, HUBQR_MATRIX_RECORD_BYTES, area, HUBQR_AREA_WORDS, buffer, sizeof buffer, &heard, &clamps)
+    return hubqr_whole(record, HUBQR_MATRIX_RECORD_BYTES, area, HUBQR_AREA_WORDS, buffer, sizeof buffer).number
         == HUBQR_ACCEPTED;
 }
 

@@ -14,6 +14,12 @@
 enum { ROWS = 16, COLUMNS = 32, STEPS = 28, TURNS = 120 };
 enum { INPUT_SCALE = 1 << 13, ONE = 1 << 30, GAIN = 652032874 };
 
+/* What Whole answers. */
+struct whole_reply {
+    uint8_t heard;
+    uint32_t clamps;
+};
+
 /* One turn of two rows of the area, from the leading column on. Answers the clamps. */
 uint32_t NAME(rotate_plain)(int32_t *upper, int32_t *lower, int leading);
 uint32_t NAME(rotate_wide)(int32_t *upper, int32_t *lower, int leading);

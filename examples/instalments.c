@@ -16,29 +16,13 @@
 
 enum { INSTALMENT = 7 };
 
-static const char *meaning(uint8_t refusal)
-{
-    switch (refusal) {
-    case HUBQR_WRONG_KIND: return "the record is empty or its kind byte is not the one expected";
-    case HUBQR_WRONG_LENGTH: return "the record's length is not 257 bytes for a matrix or 2,049 bytes for a result";
-    case HUBQR_AREA_TOO_SHORT: return "the area has fewer than 512 words";
-    case HUBQR_ALL_ZERO: return "all 64 elements of the matrix are zero";
-    case HUBQR_NO_SUCH_TURN: return "the turn number is above 120";
-    case HUBQR_UNFINISHED: return "the turn number is under 120, so the result is not finished";
-    case HUBQR_BUFFER_TOO_SHORT: return "the buffer has fewer than 2,049 bytes";
-    case HUBQR_NOT_TRIANGULAR:
-        return "R has a word under its diagonal that is not 0, or a negative one among its first 15 diagonal words";
-    default: return "no such number";
-    }
-}
-
 /* Reports a refusal, if the number is one. Returns whether it is. */
-static int refused(const char *path, uint8_t refusal)
+static int refused(const char *path, uint8_t number)
 {
-    if (refusal == HUBQR_ACCEPTED) {
+    if (number == HUBQR_ACCEPTED) {
         return 0;
     }
-    fprintf(stderr, "instalments: %s: refused with number %u: %s\n", path, (unsigned)refusal, meaning(refusal));
+    fprintf(stderr, "instalments: %s: refused with number %u: %s\n", path, (unsigned)number, hubqr_refusal_words(number));
     return 1;
 }
 
@@ -65,22 +49,22 @@ static void other_work(unsigned *rounds)
     *rounds += 1;
 }
 
-/* Makes all turns in instalments. Returns the number of a refusal, which no area filled by Load gets. */
-static uint8_t work(int32_t *area, uint32_t *turn)
+/* Makes all turns in instalments. Returns the last reply; no area filled by Load is refused. */
+static struct hubqr_run_reply work(int32_t *area, uint32_t turn)
 {
     unsigned rounds = 0;
-    while (*turn < HUBQR_TURNS) {
-        uint32_t next, made, clamps;
-        uint8_t refusal = hubqr_run(*turn, INSTALMENT, area, HUBQR_AREA_WORDS, &next, &made, &clamps);
-        if (refusal != HUBQR_ACCEPTED) {
-            return refusal;
+    struct hubqr_run_reply ran;
+    do {
+        ran = hubqr_run(turn, INSTALMENT, area, HUBQR_AREA_WORDS);
+        if (ran.number != HUBQR_ACCEPTED) {
+            break;
         }
-        *turn = next;
+        turn = ran.turn;
         other_work(&rounds);
-        printf("turn %3lu of %d, made %lu, clamps %lu, rounds of other work %u\n", (unsigned long)*turn, HUBQR_TURNS,
-               (unsigned long)made, (unsigned long)clamps, rounds);
-    }
-    return HUBQR_ACCEPTED;
+        printf("turn %3lu of %d, count %lu, clamps %lu, rounds of other work %u\n", (unsigned long)turn, HUBQR_TURNS,
+               (unsigned long)ran.count, (unsigned long)ran.clamps, rounds);
+    } while (turn < HUBQR_TURNS);
+    return ran;
 }
 
 static void print_heard(uint8_t heard)
@@ -120,20 +104,23 @@ int main(int argc, char **argv)
 {
     static int32_t area[HUBQR_AREA_WORDS];
     static uint8_t result[HUBQR_RESULT_RECORD_BYTES];
-    uint8_t record[HUBQR_MATRIX_RECORD_BYTES + 1], heard;
+    uint8_t record[HUBQR_MATRIX_RECORD_BYTES + 1];
     const char *path = argc > 1 ? argv[1] : SAMPLE;
     size_t length;
-    uint32_t turn;
     if (argc > 2) {
         fprintf(stderr, "usage: instalments [RECORD]\n");
         return 2;
     }
-    if (!read_record(path, record, &length) || refused(path, hubqr_load(record, length, area, HUBQR_AREA_WORDS, &turn, &heard))) {
+    if (!read_record(path, record, &length)) {
         return 1;
     }
-    print_heard(heard);
-    if (refused(path, work(area, &turn)) ||
-        refused(path, hubqr_fetch(turn, area, HUBQR_AREA_WORDS, result, sizeof result))) {
+    struct hubqr_load_reply loaded = hubqr_load(record, length, area, HUBQR_AREA_WORDS);
+    if (refused(path, loaded.number)) {
+        return 1;
+    }
+    print_heard(loaded.heard);
+    struct hubqr_run_reply ran = work(area, loaded.turn);
+    if (refused(path, ran.number) || refused(path, hubqr_fetch(ran.turn, area, HUBQR_AREA_WORDS, result, sizeof result))) {
         return 1;
     }
     printf("result record: kind %02X, %lu bytes\n", (unsigned)result[0], (unsigned long)sizeof result);

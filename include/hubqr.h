@@ -32,34 +32,45 @@
  *                step; not 0 only for words that came from elsewhere.
  *   heard byte   Bit k (value 2^k) is set when column k of the complex matrix has an element other than zero.
  *
+ * Replies and refusals
+ *   A call answers by value: a struct, or the number alone where there is nothing else to answer. Each call tests what it is
+ *   handed, in the order given with it. The reply's `number` is that of the first test that fails, or HUBQR_ACCEPTED. A refused
+ *   call changes no word of the area and no byte of the buffer, and the other fields of its reply are 0, except that hubqr_run
+ *   answers in `turn` the turn number it was handed. hubqr_refusal_words says a number in words.
+ *
  * Ownership and threads
- *   The caller owns every record, area, buffer and reply, before, during and after a call. The library keeps no pointer, has no
- *   state of its own and allocates nothing. All calls are reentrant: threads may call at the same time on different areas,
- *   buffers and replies, and may share a record, since records are only read. While a call lasts nobody else may write to what
- *   it was lent.
+ *   The caller owns every record, area and buffer, before, during and after a call. The library keeps no pointer, has no state of
+ *   its own and allocates nothing. All calls are reentrant: threads may call at the same time on different areas and buffers, and
+ *   may share a record, since records are only read. While a call lasts nobody else may write to what it was lent.
  *
  * Aliasing
- *   Nothing that is lent to a call may overlap anything else that is lent to it, replies included.
+ *   The record, the area and the buffer that are lent to a call may not overlap each other.
  *
  * Null
  *   `record`, `area` and `buffer` may be null exactly when their length is 0; nothing is then read or written through them and
- *   the call is refused. The reply pointers (`turn`, `heard`, `next`, `made`, `clamps`) must never be null.
+ *   the call is refused.
  *
  * Lengths
  *   Lengths are true lengths: bytes for records and buffers, words for areas. An area may be longer than HUBQR_AREA_WORDS and a
  *   buffer longer than HUBQR_RESULT_RECORD_BYTES; what lies behind those sizes is neither read nor written. A record has to have
- *   exactly its length.
+ *   exactly its length. Compilers that know the attribute `access`, as gcc does, report a length that the object behind the
+ *   pointer does not have, where they can see the object: `sizeof area` handed over for words, for instance.
  *
- * Refusals
- *   Each call tests what it is handed, in the order given with it. It returns the number of the first test that fails, or
- *   HUBQR_ACCEPTED. A refused call changes no word of the area and no byte of the buffer, and answers 0 in every reply, except
- *   that hubqr_run answers in `next` the turn number it was handed.
+ * Versions
+ *   Header and archive have to be of one version, since another one may have other fields in its replies. A host that is not
+ *   sure which archive it was linked with compares hubqr_version() with HUBQR_VERSION.
  */
 #ifndef HUBQR_H
 #define HUBQR_H
 
 #include <stddef.h>
 #include <stdint.h>
+
+/* The version of this header. */
+#define HUBQR_VERSION_MAJOR 0
+#define HUBQR_VERSION_MINOR 2
+#define HUBQR_VERSION_PATCH 0
+#define HUBQR_VERSION (10000 * HUBQR_VERSION_MAJOR + 100 * HUBQR_VERSION_MINOR + HUBQR_VERSION_PATCH)
 
 /* Sizes of the records in bytes, of the area in words, and the number of turns. */
 #define HUBQR_MATRIX_RECORD_BYTES 257
@@ -81,63 +92,133 @@
 #define HUBQR_R_ONE INT32_C(268435456)
 #define HUBQR_Q_ONE INT32_C(1073741824)
 
+/*
+ * What the declarations below tell a compiler that listens; others see nothing. HUBQR_REPLY: the reply has to be looked at, since
+ * it says whether the call was refused. The others name a pointer and its length by their places among the parameters:
+ * HUBQR_READS what is only read, HUBQR_CHANGES what is read and written, HUBQR_FILLS what need not hold anything before the call.
+ */
+#ifdef __has_attribute
+#if __has_attribute(warn_unused_result)
+#define HUBQR_REPLY __attribute__((warn_unused_result))
+#endif
+#if __has_attribute(access)
+#define HUBQR_READS(pointer, length) __attribute__((access(read_only, pointer, length)))
+#define HUBQR_CHANGES(pointer, length) __attribute__((access(read_write, pointer, length)))
+#define HUBQR_FILLS(pointer, length) __attribute__((access(write_only, pointer, length)))
+#endif
+#endif
+#ifndef HUBQR_REPLY
+#define HUBQR_REPLY
+#endif
+#ifndef HUBQR_READS
+#define HUBQR_READS(pointer, length)
+#define HUBQR_CHANGES(pointer, length)
+#define HUBQR_FILLS(pointer, length)
+#endif
+
 #ifdef __cplusplus
 extern "C" {
 #endif
 
-/* What a call returns: 0, or the number of the first test that failed. */
+/* The refusals: the name in enum hubqr_refusal, the number, and what hubqr_refusal_words says of it. */
+#define HUBQR_REFUSALS(X)                                                                                                      \
+    X(HUBQR_WRONG_KIND, 1, "the record is empty or its kind byte is not the one expected")                                     \
+    X(HUBQR_WRONG_LENGTH, 2, "the record's length is not 257 bytes for a matrix or 2,049 bytes for a result")                  \
+    X(HUBQR_AREA_TOO_SHORT, 3, "the area has fewer than 512 words")                                                            \
+    X(HUBQR_ALL_ZERO, 4, "all 64 elements of the matrix are zero")                                                             \
+    X(HUBQR_NO_SUCH_TURN, 5, "the turn number is above 120")                                                                   \
+    X(HUBQR_UNFINISHED, 6, "the turn number is under 120, so the result is not finished")                                      \
+    X(HUBQR_BUFFER_TOO_SHORT, 7, "the buffer has fewer than 2,049 bytes")                                                      \
+    X(HUBQR_NOT_TRIANGULAR, 8,                                                                                                 \
+      "R has a word under its diagonal that is not 0, or a negative one among its first 15 diagonal words")
+
+/* What a reply's `number` can be. */
 enum hubqr_refusal {
-    HUBQR_ACCEPTED = 0,         /* no test failed, the call has done its work */
-    HUBQR_WRONG_KIND = 1,       /* the record has no byte, or its kind byte is not the one that the call takes */
-    HUBQR_WRONG_LENGTH = 2,     /* the record's length is not 257 bytes (a matrix) or 2,049 bytes (a result) */
-    HUBQR_AREA_TOO_SHORT = 3,   /* the area has fewer than 512 words */
-    HUBQR_ALL_ZERO = 4,         /* all 64 elements of the matrix are zero: no antenna heard anything */
-    HUBQR_NO_SUCH_TURN = 5,     /* the turn number is above 120 */
-    HUBQR_UNFINISHED = 6,       /* the turn number is under 120, so there is no result to fetch yet */
-    HUBQR_BUFFER_TOO_SHORT = 7, /* the buffer has fewer than 2,049 bytes */
-    HUBQR_NOT_TRIANGULAR = 8    /* a word of R under the diagonal is not 0, or one of its first 15 diagonal words is negative */
+    HUBQR_ACCEPTED = 0, /* no test failed, the call has done its work */
+#define HUBQR_REFUSAL_NUMBER(name, number, words) name = number,
+    HUBQR_REFUSALS(HUBQR_REFUSAL_NUMBER)
+#undef HUBQR_REFUSAL_NUMBER
+};
+
+/* A number in words: a sentence without a full stop, "accepted" for 0, "no refusal number" for a number that is none. */
+static inline const char *hubqr_refusal_words(uint8_t number)
+{
+    switch (number) {
+    case HUBQR_ACCEPTED: return "accepted";
+#define HUBQR_REFUSAL_WORDS(name, number, words) case name: return words;
+    HUBQR_REFUSALS(HUBQR_REFUSAL_WORDS)
+#undef HUBQR_REFUSAL_WORDS
+    default: return "no refusal number";
+    }
+}
+
+/* The version of the archive: 10000 * major + 100 * minor + patch. */
+uint32_t hubqr_version(void) HUBQR_REPLY;
+
+/* What Load answers. */
+struct hubqr_load_reply {
+    uint8_t number; /* HUBQR_ACCEPTED, or the refusal */
+    uint8_t heard;  /* the heard byte */
+    uint32_t turn;  /* the turn number to hand to the next call, which is 0 */
 };
 
 /*
  * Load: fills the area's 512 words from a matrix record.
  * Tests, in this order: 1, 2, 3, 4.
- * Accepted: *turn is 0, *heard is the heard byte.
- * Refused:  *turn and *heard are 0.
  */
-uint8_t hubqr_load(const uint8_t *record, size_t record_len, int32_t *area, size_t area_len, uint32_t *turn, uint8_t *heard);
+struct hubqr_load_reply hubqr_load(const uint8_t *record, size_t record_len, int32_t *area, size_t area_len)
+    HUBQR_REPLY HUBQR_READS(1, 2) HUBQR_FILLS(3, 4);
+
+/* What Run answers. */
+struct hubqr_run_reply {
+    uint8_t number;  /* HUBQR_ACCEPTED, or the refusal */
+    uint32_t turn;   /* the turn number to hand to the next call; refused: the one that was handed over */
+    uint32_t count;  /* the turns made in this call */
+    uint32_t clamps; /* the clamps counted in this call */
+};
 
 /*
  * Run: makes the smaller of `allowance` and 120 - `turn` turns, from turn number `turn` on. Allowance 0 and turn number 120 are
  * no errors: no turn is made. Many Runs make of the area what one Run with the sum of their allowances makes of it.
  * Tests, in this order: 3, 5.
- * Accepted: *next is the turn number to hand to the next call, *made the turns made and *clamps the clamps counted in this call.
- * Refused:  *next is `turn`, *made and *clamps are 0.
  */
-uint8_t hubqr_run(uint32_t turn, uint16_t allowance, int32_t *area, size_t area_len, uint32_t *next, uint32_t *made,
-                  uint32_t *clamps);
+struct hubqr_run_reply hubqr_run(uint32_t turn, uint16_t allowance, int32_t *area, size_t area_len)
+    HUBQR_REPLY HUBQR_CHANGES(3, 4);
 
 /*
- * Fetch: writes the result record into the first 2,049 bytes of the buffer. The area is only read.
+ * Fetch: writes the result record into the first 2,049 bytes of the buffer. The area is only read. Answers the number.
  * Tests, in this order: 3, 5, 6, 7, 8. Test 8 never fails on an area that was loaded and worked in step.
  */
-uint8_t hubqr_fetch(uint32_t turn, const int32_t *area, size_t area_len, uint8_t *buffer, size_t buffer_len);
+uint8_t hubqr_fetch(uint32_t turn, const int32_t *area, size_t area_len, uint8_t *buffer, size_t buffer_len)
+    HUBQR_REPLY HUBQR_READS(2, 3) HUBQR_FILLS(4, 5);
+
+/* What Read answers. */
+struct hubqr_read_reply {
+    uint8_t number; /* HUBQR_ACCEPTED, or the refusal */
+    uint32_t turn;  /* the turn number to hand to the next call, which is 120 */
+};
 
 /*
  * Read: fills the area's 512 words from a result record. A Fetch from that area writes the same record again.
  * Tests, in this order: 1, 2, 3, 8.
- * Accepted: *turn is 120.
- * Refused:  *turn is 0.
  */
-uint8_t hubqr_read(const uint8_t *record, size_t record_len, int32_t *area, size_t area_len, uint32_t *turn);
+struct hubqr_read_reply hubqr_read(const uint8_t *record, size_t record_len, int32_t *area, size_t area_len)
+    HUBQR_REPLY HUBQR_READS(1, 2) HUBQR_FILLS(3, 4);
+
+/* What Whole answers. */
+struct hubqr_whole_reply {
+    uint8_t number;  /* HUBQR_ACCEPTED, or the refusal */
+    uint8_t heard;   /* the heard byte */
+    uint32_t clamps; /* the clamps counted, which are 0 */
+};
 
 /*
  * Whole: Load, all 120 turns and Fetch in one call. R and Q are left in the area as well.
  * Tests, in this order: 1, 2, 3, 7, 4.
- * Accepted: *heard is the heard byte, *clamps the clamps counted, which is 0.
- * Refused:  *heard and *clamps are 0.
  */
-uint8_t hubqr_whole(const uint8_t *record, size_t record_len, int32_t *area, size_t area_len, uint8_t *buffer, size_t buffer_len,
-                    uint8_t *heard, uint32_t *clamps);
+struct hubqr_whole_reply hubqr_whole(const uint8_t *record, size_t record_len, int32_t *area, size_t area_len, uint8_t *buffer,
+                                     size_t buffer_len)
+    HUBQR_REPLY HUBQR_READS(1, 2) HUBQR_FILLS(3, 4) HUBQR_FILLS(5, 6);
 
 #ifdef __cplusplus
 }

@@ -31,8 +31,8 @@ pub const ENGINE: Contender = Contender {
     run: |turn, allowance, area| hubqr::run(turn, allowance, area).expect(ACCEPTED).clamps,
     fetch: |area, buffer| hubqr::fetch(hubqr::TURNS, area, buffer).expect(ACCEPTED),
     whole: |record, area, buffer| {
-        let answer = hubqr::whole(record, area, buffer).expect(ACCEPTED);
-        (answer.heard, answer.clamps)
+        let factored = hubqr::whole(record, area, buffer).expect(ACCEPTED);
+        (factored.heard, factored.clamps)
     },
 };
 
@@ -45,8 +45,8 @@ const REFERENCE: Contender = Contender {
         reference::calls::fetch(hubqr::TURNS, area, buffer);
     },
     whole: |record, area, buffer| {
-        let answer = reference::calls::whole(record, area, buffer);
-        (answer.heard, answer.clamps)
+        let reply = reference::calls::whole(record, area, buffer);
+        (reply.heard, reply.clamps)
     },
 };
 

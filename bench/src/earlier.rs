@@ -1,25 +1,18 @@
 //! An earlier archive of the engine, whose calls `build.rs` gave other names.
 
+use hubqr::ffi::{LoadReply, RunReply, WholeReply};
+
 use crate::contenders::{Area, Buffer, Contender, Record};
 
 extern "C" {
+    fn earlier_hubqr_version() -> u32;
     fn earlier_hubqr_load(
         record: &Record,
         record_len: usize,
         area: &mut Area,
         area_len: usize,
-        turn: &mut u32,
-        heard: &mut u8,
-    ) -> u8;
-    fn earlier_hubqr_run(
-        turn: u32,
-        allowance: u16,
-        area: &mut Area,
-        area_len: usize,
-        next: &mut u32,
-        made: &mut u32,
-        clamps: &mut u32,
-    ) -> u8;
+    ) -> LoadReply;
+    fn earlier_hubqr_run(turn: u32, allowance: u16, area: &mut Area, area_len: usize) -> RunReply;
     fn earlier_hubqr_fetch(
         turn: u32,
         area: &Area,
@@ -34,9 +27,7 @@ extern "C" {
         area_len: usize,
         buffer: &mut Buffer,
         buffer_len: usize,
-        heard: &mut u8,
-        clamps: &mut u32,
-    ) -> u8;
+    ) -> WholeReply;
 }
 
 pub const CONTENDER: Contender = Contender {
@@ -47,37 +38,33 @@ pub const CONTENDER: Contender = Contender {
     whole,
 };
 
-// SAFETY of all calls: the lengths are those of the arrays, which do not overlap.
+/// Says so where the earlier archive's replies may be others than those that are declared here. The
+/// patch is what versions of the same face differ in.
+pub fn check_face() -> Result<(), String> {
+    // SAFETY: the call takes nothing.
+    let earlier = unsafe { earlier_hubqr_version() };
+    if earlier / 100 == hubqr::VERSION / 100 {
+        return Ok(());
+    }
+    let name = |version| format!("{}.{}.x", version / 10_000, version / 100 % 100);
+    Err(format!(
+        "the earlier archive is of version {}, this benchmark calls archives of version {}",
+        name(earlier),
+        name(hubqr::VERSION)
+    ))
+}
+
+// SAFETY of all calls: the lengths are those of the arrays, which do not overlap, and nothing is
+// called before `check_face` has found the replies to be these.
 
 fn load(record: &Record, area: &mut Area) -> u8 {
-    let (mut turn, mut heard) = (0, 0);
-    unsafe {
-        earlier_hubqr_load(
-            record,
-            record.len(),
-            area,
-            area.len(),
-            &mut turn,
-            &mut heard,
-        )
-    };
-    heard
+    let reply = unsafe { earlier_hubqr_load(record, record.len(), area, area.len()) };
+    reply.heard
 }
 
 fn run(turn: u32, allowance: u16, area: &mut Area) -> u32 {
-    let (mut next, mut made, mut clamps) = (0, 0, 0);
-    unsafe {
-        earlier_hubqr_run(
-            turn,
-            allowance,
-            area,
-            area.len(),
-            &mut next,
-            &mut made,
-            &mut clamps,
-        )
-    };
-    clamps
+    let reply = unsafe { earlier_hubqr_run(turn, allowance, area, area.len()) };
+    reply.clamps
 }
 
 fn fetch(area: &Area, buffer: &mut Buffer) {
@@ -85,18 +72,7 @@ fn fetch(area: &Area, buffer: &mut Buffer) {
 }
 
 fn whole(record: &Record, area: &mut Area, buffer: &mut Buffer) -> (u8, u32) {
-    let (mut heard, mut clamps) = (0, 0);
-    unsafe {
-        earlier_hubqr_whole(
-            record,
-            record.len(),
-            area,
-            area.len(),
-            buffer,
-            buffer.len(),
-            &mut heard,
-            &mut clamps,
-        )
-    };
-    (heard, clamps)
+    let (words, bytes) = (area.len(), buffer.len());
+    let reply = unsafe { earlier_hubqr_whole(record, record.len(), area, words, buffer, bytes) };
+    (reply.heard, reply.clamps)
 }

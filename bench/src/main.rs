@@ -49,6 +49,8 @@ fn main() -> ExitCode {
 
 /// Nobody is timed who does not do the work.
 fn agree(seed: u64) -> Result<(), String> {
+    #[cfg(earlier)]
+    earlier::check_face()?;
     for contender in contenders::all() {
         agree::check(&contender, seed)?;
     }

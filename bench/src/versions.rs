@@ -2,11 +2,19 @@
 
 use crate::contenders::Contender;
 
+/// What Whole of a version in C answers.
+#[repr(C)]
+pub struct WholeReply {
+    heard: u8,
+    clamps: u32,
+}
+
 /// Declares the calls of calls.c under a version's prefix, and makes a contender of them. What they
 /// take pointers to is always a whole record, area or buffer.
 macro_rules! version {
     ($version:ident, $name:literal) => {
         pub mod $version {
+            use super::WholeReply;
             use crate::contenders::{Area, Buffer, Contender, Record};
 
             extern "C" {
@@ -17,12 +25,7 @@ macro_rules! version {
                 #[link_name = concat!(stringify!($version), "_fetch")]
                 fn fetch(area: &Area, buffer: &mut Buffer);
                 #[link_name = concat!(stringify!($version), "_whole")]
-                fn whole(
-                    record: &Record,
-                    area: &mut Area,
-                    buffer: &mut Buffer,
-                    heard: &mut u8,
-                ) -> u32;
+                fn whole(record: &Record, area: &mut Area, buffer: &mut Buffer) -> WholeReply;
             }
 
             // SAFETY: the calls stay within what they are lent; `run` needs a turn number to 120.
@@ -34,9 +37,8 @@ macro_rules! version {
                 },
                 fetch: |area, buffer| unsafe { fetch(area, buffer) },
                 whole: |record, area, buffer| {
-                    let mut heard = 0;
-                    let clamps = unsafe { whole(record, area, buffer, &mut heard) };
-                    (heard, clamps)
+                    let reply = unsafe { whole(record, area, buffer) };
+                    (reply.heard, reply.clamps)
                 },
             };
         }

@@ -25,11 +25,10 @@ static int32_t real_entry(int i, int j)
 
 static void load_matrix(void)
 {
-    uint32_t turn = JUNK;
-    uint8_t heard = JUNK;
-    CHECK("Load", hubqr_load(matrix, sizeof matrix, area, AREA_LENT, &turn, &heard) == HUBQR_ACCEPTED);
-    CHECK("Load answers turn number 0", turn == 0);
-    CHECK("Load of a matrix that every antenna heard", heard == 0xff);
+    struct hubqr_load_reply loaded = hubqr_load(matrix, sizeof matrix, area, AREA_LENT);
+    CHECK("Load", loaded.number == HUBQR_ACCEPTED);
+    CHECK("Load answers turn number 0", loaded.turn == 0);
+    CHECK("Load of a matrix that every antenna heard", loaded.heard == 0xff);
 }
 
 static void test_load(void)
@@ -54,11 +53,10 @@ static void test_heard(void)
 {
     for (int k = 0; k < 8; k++) {
         uint8_t record[HUBQR_MATRIX_RECORD_BYTES] = {HUBQR_KIND_MATRIX};
-        uint32_t turn = JUNK;
-        uint8_t heard = JUNK;
         set_element(record, 7 - k, k, (int16_t)(k % 2), (int16_t)(1 - k % 2));
-        CHECK("Load of a single 1", hubqr_load(record, sizeof record, area, AREA_LENT, &turn, &heard) == HUBQR_ACCEPTED);
-        CHECK("heard byte of a single 1", heard == 1u << k);
+        struct hubqr_load_reply loaded = hubqr_load(record, sizeof record, area, AREA_LENT);
+        CHECK("Load of a single 1", loaded.number == HUBQR_ACCEPTED && loaded.turn == 0);
+        CHECK("heard byte of a single 1", loaded.heard == 1u << k);
     }
 }
 
@@ -69,21 +67,21 @@ static void run_all(uint16_t allowance)
     while (turn < HUBQR_TURNS) {
         uint32_t left = HUBQR_TURNS - turn;
         uint32_t due = allowance < left ? allowance : left;
-        uint32_t next = JUNK, made = JUNK, clamps = JUNK;
-        CHECK("Run", hubqr_run(turn, allowance, area, AREA_LENT, &next, &made, &clamps) == HUBQR_ACCEPTED);
-        CHECK("Run makes the smaller of allowance and turns left", made == due && next == turn + due);
-        CHECK("Run of a loaded area counts no clamp", clamps == 0);
-        turn = next;
+        struct hubqr_run_reply ran = hubqr_run(turn, allowance, area, AREA_LENT);
+        CHECK("Run", ran.number == HUBQR_ACCEPTED);
+        CHECK("Run makes the smaller of allowance and turns left", ran.count == due && ran.turn == turn + due);
+        CHECK("Run of a loaded area counts no clamp", ran.clamps == 0);
+        turn = ran.turn;
     }
 }
 
 /* A Run that makes no turn: nothing changes and the turn number stays. */
 static void run_none(const char *what, uint32_t turn, uint16_t allowance)
 {
-    uint32_t next = JUNK, made = JUNK, clamps = JUNK;
     remember();
-    CHECK(what, hubqr_run(turn, allowance, area, AREA_LENT, &next, &made, &clamps) == HUBQR_ACCEPTED);
-    CHECK(what, next == turn && made == 0 && clamps == 0);
+    struct hubqr_run_reply ran = hubqr_run(turn, allowance, area, AREA_LENT);
+    CHECK(what, ran.number == HUBQR_ACCEPTED);
+    CHECK(what, ran.turn == turn && ran.count == 0 && ran.clamps == 0);
     CHECK(what, unchanged());
 }
 
@@ -109,13 +107,13 @@ static void test_run(void)
 /* The last turn, which is column 14, rows 14 and 15, made of the given leading pair and of 0 elsewhere. */
 static void last_turn(int32_t upper, int32_t lower, int32_t expected)
 {
-    uint32_t next = JUNK, made = JUNK, clamps = JUNK;
     int32_t *up = area + HUBQR_AREA_COLUMNS * 14 + 14, *low = area + HUBQR_AREA_COLUMNS * 15 + 14;
     memset(area, 0, sizeof area);
     *up = upper;
     *low = lower;
-    CHECK("last turn", hubqr_run(119, 1, area, AREA_LENT, &next, &made, &clamps) == HUBQR_ACCEPTED);
-    CHECK("last turn", next == HUBQR_TURNS && made == 1 && clamps == 0);
+    struct hubqr_run_reply ran = hubqr_run(119, 1, area, AREA_LENT);
+    CHECK("last turn", ran.number == HUBQR_ACCEPTED);
+    CHECK("last turn", ran.turn == HUBQR_TURNS && ran.count == 1 && ran.clamps == 0);
     CHECK("leading pair of the last turn", *up == expected && *low == 0);
 }
 
@@ -129,12 +127,12 @@ static void test_turn_values(void)
 /* Words as large as they can be, which no Load makes, are clamped in the upper row of columns 14 to 31. */
 static void test_clamps(void)
 {
-    uint32_t next = JUNK, made = JUNK, clamps = JUNK;
     for (int k = 0; k < AREA_LENT; k++) {
         area[k] = INT32_MAX;
     }
-    CHECK("Run of huge words", hubqr_run(119, 1, area, AREA_LENT, &next, &made, &clamps) == HUBQR_ACCEPTED);
-    CHECK("Run counts clamps", clamps == 18);
+    struct hubqr_run_reply ran = hubqr_run(119, 1, area, AREA_LENT);
+    CHECK("Run of huge words", ran.number == HUBQR_ACCEPTED && ran.turn == HUBQR_TURNS && ran.count == 1);
+    CHECK("Run counts clamps", ran.clamps == 18);
     CHECK("Run stores the clamped word", area[HUBQR_AREA_COLUMNS * 14 + 31] == INT32_MAX);
 }
 
@@ -170,15 +168,15 @@ static void test_read(void)
 {
     uint8_t record[HUBQR_RESULT_RECORD_BYTES];
     int32_t fetched[HUBQR_AREA_WORDS];
-    uint32_t turn = JUNK;
     memcpy(record, buffer, sizeof record);
     memcpy(fetched, area, sizeof fetched);
     scribble();
     remember();
-    CHECK("Read", hubqr_read(record, sizeof record, area, AREA_LENT, &turn) == HUBQR_ACCEPTED);
-    CHECK("Read answers turn number 120", turn == HUBQR_TURNS);
+    struct hubqr_read_reply restored = hubqr_read(record, sizeof record, area, AREA_LENT);
+    CHECK("Read", restored.number == HUBQR_ACCEPTED);
+    CHECK("Read answers turn number 120", restored.turn == HUBQR_TURNS);
     CHECK("Read fills all 512 words", memcmp(area, fetched, sizeof fetched) == 0);
-    CHECK("Fetch of what was read", hubqr_fetch(turn, area, AREA_LENT, buffer, BUFFER_LENT) == HUBQR_ACCEPTED);
+    CHECK("Fetch of what was read", hubqr_fetch(restored.turn, area, AREA_LENT, buffer, BUFFER_LENT) == HUBQR_ACCEPTED);
     CHECK("Fetch writes the record that was read", memcmp(buffer, record, sizeof record) == 0);
     CHECK("Read and Fetch leave what is behind", guards_unchanged());
 }
@@ -187,14 +185,13 @@ static void test_whole(void)
 {
     uint8_t record[HUBQR_RESULT_RECORD_BYTES];
     int32_t worked[HUBQR_AREA_WORDS];
-    uint32_t clamps = JUNK;
-    uint8_t heard = JUNK;
     memcpy(record, buffer, sizeof record);
     memcpy(worked, area, sizeof worked);
     scribble();
     remember();
-    CHECK("Whole", hubqr_whole(matrix, sizeof matrix, area, AREA_LENT, buffer, BUFFER_LENT, &heard, &clamps) == HUBQR_ACCEPTED);
-    CHECK("Whole answers heard byte and clamps", heard == 0xff && clamps == 0);
+    struct hubqr_whole_reply factored = hubqr_whole(matrix, sizeof matrix, area, AREA_LENT, buffer, BUFFER_LENT);
+    CHECK("Whole", factored.number == HUBQR_ACCEPTED);
+    CHECK("Whole answers heard byte and clamps", factored.heard == 0xff && factored.clamps == 0);
     CHECK("Whole leaves R and Q in the area", memcmp(area, worked, sizeof worked) == 0);
     CHECK("Whole writes the record of Load, Run and Fetch", memcmp(buffer, record, sizeof record) == 0);
     CHECK("Whole leaves what is behind", guards_unchanged());
@@ -221,17 +218,17 @@ static void test_exact_sizes(void)
 {
     uint8_t *record = malloc(HUBQR_MATRIX_RECORD_BYTES), *result = malloc(HUBQR_RESULT_RECORD_BYTES);
     int32_t *words = malloc(HUBQR_AREA_WORDS * sizeof *words);
-    uint32_t turn, next, made, clamps;
-    uint8_t heard;
     CHECK("memory for exact sizes", record && result && words);
     make_matrix(record);
-    CHECK("Load", hubqr_load(record, HUBQR_MATRIX_RECORD_BYTES, words, HUBQR_AREA_WORDS, &turn, &heard) == HUBQR_ACCEPTED);
-    CHECK("Run", hubqr_run(turn, 120, words, HUBQR_AREA_WORDS, &next, &made, &clamps) == HUBQR_ACCEPTED);
-    CHECK("Fetch", hubqr_fetch(next, words, HUBQR_AREA_WORDS, result, HUBQR_RESULT_RECORD_BYTES) == HUBQR_ACCEPTED);
+    struct hubqr_load_reply loaded = hubqr_load(record, HUBQR_MATRIX_RECORD_BYTES, words, HUBQR_AREA_WORDS);
+    CHECK("Load", loaded.number == HUBQR_ACCEPTED);
+    struct hubqr_run_reply ran = hubqr_run(loaded.turn, 120, words, HUBQR_AREA_WORDS);
+    CHECK("Run", ran.number == HUBQR_ACCEPTED);
+    CHECK("Fetch", hubqr_fetch(ran.turn, words, HUBQR_AREA_WORDS, result, HUBQR_RESULT_RECORD_BYTES) == HUBQR_ACCEPTED);
     CHECK("same record as in longer lent memory", memcmp(result, buffer, HUBQR_RESULT_RECORD_BYTES) == 0);
-    CHECK("Read", hubqr_read(result, HUBQR_RESULT_RECORD_BYTES, words, HUBQR_AREA_WORDS, &turn) == HUBQR_ACCEPTED);
-    CHECK("Whole", hubqr_whole(record, HUBQR_MATRIX_RECORD_BYTES, words, HUBQR_AREA_WORDS, result, HUBQR_RESULT_RECORD_BYTES,
-                               &heard, &clamps) == HUBQR_ACCEPTED);
+    CHECK("Read", hubqr_read(result, HUBQR_RESULT_RECORD_BYTES, words, HUBQR_AREA_WORDS).number == HUBQR_ACCEPTED);
+    CHECK("Whole", hubqr_whole(record, HUBQR_MATRIX_RECORD_BYTES, words, HUBQR_AREA_WORDS, result, HUBQR_RESULT_RECORD_BYTES)
+                       .number == HUBQR_ACCEPTED);
     CHECK("same record again", memcmp(result, buffer, HUBQR_RESULT_RECORD_BYTES) == 0);
     free(record);
     free(result);

@@ -9,9 +9,6 @@
 void check(int holds, const char *what, const char *condition, const char *file, int line);
 unsigned checks_passed(void);
 
-/* A reply's value before a call, so that a reply that is not written shows. */
-enum { JUNK = 0x77 };
-
 /* What a call is lent. Both are longer than needed; the words and bytes behind the needed ones are guards. */
 enum { GUARDS = 5, AREA_LENT = HUBQR_AREA_WORDS + GUARDS, BUFFER_LENT = HUBQR_RESULT_RECORD_BYTES + GUARDS };
 extern int32_t area[AREA_LENT];
@@ -29,6 +26,7 @@ void make_matrix(uint8_t record[HUBQR_MATRIX_RECORD_BYTES]);
 /* Sets element (row, column) of a matrix record. */
 void set_element(uint8_t *record, int row, int column, int16_t real, int16_t imaginary);
 
+void test_face(void);
 void test_accepted(void);
 void test_refused(void);
 

@@ -11,7 +11,7 @@ static uint8_t other_kind[HUBQR_RESULT_RECORD_BYTES] = {HUBQR_KIND_REFUSAL};
 static uint8_t negative_diagonal[HUBQR_RESULT_RECORD_BYTES] = {HUBQR_KIND_RESULT, 0xff, 0xff, 0xff, 0xff};
 static uint8_t under_diagonal[HUBQR_RESULT_RECORD_BYTES] = {HUBQR_KIND_RESULT};
 
-/* What a call is handed, and the number it must return. Fields that a call does not take stay 0. */
+/* What a call is handed, and the number it must answer. Fields that a call does not take stay 0. */
 struct handed {
     const char *what;
     const uint8_t *record;
@@ -26,17 +26,14 @@ struct handed {
 
 static void refuse_load(const struct handed *h)
 {
-    uint32_t turn = JUNK;
-    uint8_t heard = JUNK;
-    CHECK(h->what, hubqr_load(h->record, h->record_len, h->area, h->area_len, &turn, &heard) == h->number);
-    CHECK(h->what, turn == 0 && heard == 0);
+    struct hubqr_load_reply reply = hubqr_load(h->record, h->record_len, h->area, h->area_len);
+    CHECK(h->what, reply.number == h->number && reply.turn == 0 && reply.heard == 0);
 }
 
 static void refuse_run(const struct handed *h)
 {
-    uint32_t next = JUNK, made = JUNK, clamps = JUNK;
-    CHECK(h->what, hubqr_run(h->turn, 120, h->area, h->area_len, &next, &made, &clamps) == h->number);
-    CHECK(h->what, next == h->turn && made == 0 && clamps == 0);
+    struct hubqr_run_reply reply = hubqr_run(h->turn, 120, h->area, h->area_len);
+    CHECK(h->what, reply.number == h->number && reply.turn == h->turn && reply.count == 0 && reply.clamps == 0);
 }
 
 static void refuse_fetch(const struct handed *h)
@@ -46,18 +43,14 @@ static void refuse_fetch(const struct handed *h)
 
 static void refuse_read(const struct handed *h)
 {
-    uint32_t turn = JUNK;
-    CHECK(h->what, hubqr_read(h->record, h->record_len, h->area, h->area_len, &turn) == h->number);
-    CHECK(h->what, turn == 0);
+    struct hubqr_read_reply reply = hubqr_read(h->record, h->record_len, h->area, h->area_len);
+    CHECK(h->what, reply.number == h->number && reply.turn == 0);
 }
 
 static void refuse_whole(const struct handed *h)
 {
-    uint32_t clamps = JUNK;
-    uint8_t heard = JUNK;
-    CHECK(h->what, hubqr_whole(h->record, h->record_len, h->area, h->area_len, h->buffer, h->buffer_len, &heard, &clamps) ==
-                       h->number);
-    CHECK(h->what, heard == 0 && clamps == 0);
+    struct hubqr_whole_reply reply = hubqr_whole(h->record, h->record_len, h->area, h->area_len, h->buffer, h->buffer_len);
+    CHECK(h->what, reply.number == h->number && reply.heard == 0 && reply.clamps == 0);
 }
 
 /* Makes the refused calls of a table on the area and buffer as they stand. */

@@ -3,25 +3,37 @@
 
 #include <array>
 #include <cstdio>
+#include <string_view>
 
 static_assert(HUBQR_R_ONE == 32768 * 8192, "one in Q1.15, times 2^13");
 static_assert(HUBQR_Q_ONE == 1 << 30, "one in Q");
 
+static std::array<uint8_t, HUBQR_MATRIX_RECORD_BYTES> record{HUBQR_KIND_MATRIX};
+static std::array<int32_t, HUBQR_AREA_WORDS> area;
+static std::array<uint8_t, HUBQR_RESULT_RECORD_BYTES> buffer;
+
+static bool accepted()
+{
+    record[4] = 1;
+    auto factored = hubqr_whole(record.data(), record.size(), area.data(), area.size(), buffer.data(), buffer.size());
+    auto restored = hubqr_read(buffer.data(), buffer.size(), area.data(), area.size());
+    auto ran = hubqr_run(restored.turn, 1, area.data(), area.size());
+    return factored.number == HUBQR_ACCEPTED && factored.heard == 1 && factored.clamps == 0 &&
+           restored.number == HUBQR_ACCEPTED && restored.turn == HUBQR_TURNS && ran.number == HUBQR_ACCEPTED &&
+           ran.turn == HUBQR_TURNS && ran.count == 0 && ran.clamps == 0;
+}
+
+static bool refused()
+{
+    auto loaded = hubqr_load(nullptr, 0, area.data(), area.size());
+    auto fetched = hubqr_fetch(HUBQR_TURNS, area.data(), area.size(), buffer.data(), 0);
+    return loaded.number == HUBQR_WRONG_KIND && fetched == HUBQR_BUFFER_TOO_SHORT;
+}
+
 int main()
 {
-    std::array<uint8_t, HUBQR_MATRIX_RECORD_BYTES> record{HUBQR_KIND_MATRIX};
-    std::array<int32_t, HUBQR_AREA_WORDS> area{};
-    std::array<uint8_t, HUBQR_RESULT_RECORD_BYTES> buffer{};
-    uint32_t clamps = 1, turn = 1, next = 1, made = 1;
-    uint8_t heard = 1;
-    record[4] = 1;
-    bool holds = hubqr_whole(record.data(), record.size(), area.data(), area.size(), buffer.data(), buffer.size(), &heard,
-                             &clamps) == HUBQR_ACCEPTED &&
-                 heard == 1 && clamps == 0;
-    holds = holds && hubqr_read(buffer.data(), buffer.size(), area.data(), area.size(), &turn) == HUBQR_ACCEPTED;
-    holds = holds && hubqr_fetch(turn, area.data(), area.size(), buffer.data(), 0) == HUBQR_BUFFER_TOO_SHORT;
-    holds = holds && hubqr_run(turn, 1, area.data(), area.size(), &next, &made, &clamps) == HUBQR_ACCEPTED;
-    holds = holds && hubqr_load(nullptr, 0, area.data(), area.size(), &turn, &heard) == HUBQR_WRONG_KIND;
+    bool named = hubqr_version() == HUBQR_VERSION && hubqr_refusal_words(HUBQR_ACCEPTED) == std::string_view("accepted");
+    bool holds = accepted() && refused() && named;
     std::puts(holds ? "hubqr C++ face: passed" : "hubqr C++ face: FAILED");
     return holds ? 0 : 1;
 }

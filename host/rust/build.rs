@@ -1,10 +1,13 @@
 //! Links `libhubqr.a`, which `make build/libhubqr.a` writes. `HUBQR_LIB_DIR` names another folder
-//! that holds it.
+//! that holds it. Without the feature `archive` nothing is linked.
 use std::env;
 use std::path::Path;
 
 fn main() {
     println!("cargo:rerun-if-env-changed=HUBQR_LIB_DIR");
+    if env::var_os("CARGO_FEATURE_ARCHIVE").is_none() {
+        return;
+    }
     let folder = match env::var_os("HUBQR_LIB_DIR") {
         Some(folder) => folder.into(),
         None => {

@@ -53,14 +53,14 @@ fn accept_load(record: &[u8], area: &mut [i32]) -> Result<LoadReply, Refusal> {
 fn accept_run(turn: u32, allowance: u16, area: &mut [i32]) -> Result<RunReply, Refusal> {
     let area = lent_area(area)?;
     test_turn(turn)?;
-    let made = u32::from(allowance).min(TURNS - turn);
+    let count = u32::from(allowance).min(TURNS - turn);
     let mut work = WorkArea::from_words(area);
-    let clamps = make_turns(&mut work, turn, made);
+    let clamps = make_turns(&mut work, turn, count);
     *area = work.to_words();
     Ok(RunReply {
         number: 0,
-        next: turn + made,
-        made,
+        turn: turn + count,
+        count,
         clamps,
     })
 }
@@ -187,7 +187,7 @@ mod tests {
         assert_eq!(run(121, 7, short), RunReply::refused(Refusal::Area, 121));
         assert_eq!(run(121, 7, full), RunReply::refused(Refusal::Turn, 121));
         let at_the_end = RunReply {
-            next: 120,
+            turn: 120,
             ..RunReply::default()
         };
         assert_eq!(run(120, 7, full), at_the_end);
@@ -196,7 +196,7 @@ mod tests {
     #[test]
     fn run_makes_the_smaller_of_allowance_and_rest() {
         let mut area = [0; 512];
-        for (turn, allowance, made) in [
+        for (turn, allowance, count) in [
             (0, 0, 0),
             (0, 119, 119),
             (0, 120, 120),
@@ -204,7 +204,7 @@ mod tests {
             (119, 65535, 1),
         ] {
             let reply = run(turn, allowance, &mut area);
-            assert_eq!((reply.made, reply.next), (made, turn + made));
+            assert_eq!((reply.count, reply.turn), (count, turn + count));
         }
     }
 

@@ -1,20 +1,51 @@
-//! What the program `cases` writes: each line of its script again, with the reply of the call and
-//! the digests of the memory before and after.
+//! What the program `cases` writes: the run-only cases of the specification, with a line for each
+//! call.
 
 mod digest;
 mod host;
 mod sample;
 
+use crate::area::AREA_WORDS;
+use crate::records::{MATRIX_RECORD, RESULT_RECORD};
 use host::Host;
+use sample::Sample;
 
-/// The script that the program is run on.
-pub const SCRIPT: &str = include_str!("../../crates/cases/stdin");
+/// What stands in each word of an area and each byte of a buffer before the first call.
+const BEFORE: u8 = 7;
 
-/// What the program writes for a script.
-pub fn listing(script: &str) -> String {
-    let mut host = Host::new();
-    script
-        .lines()
-        .map(|line| host.execute(line) + "\n")
-        .collect()
+pub fn listing() -> String {
+    let mut host = Host::default();
+    for (sample, allowances) in [
+        (Sample::Full, &[119, 120, 121][..]),
+        (Sample::Single, &[120]),
+        (Sample::Lowest, &[120]),
+    ] {
+        host.write(sample.title());
+        sizes(&mut host, sample);
+        for &allowance in allowances {
+            turns(&mut host, sample, allowance);
+        }
+    }
+    host.written()
+}
+
+/// An area of 513 words: a record of 257 bytes, then 258 bytes, then all turns.
+fn sizes(host: &mut Host, sample: Sample) {
+    let record = sample.bytes();
+    let mut area = [BEFORE.into(); AREA_WORDS + 1];
+    host.load(&record[..MATRIX_RECORD], &mut area);
+    host.load(&record, &mut area);
+    host.run(0, 120, &mut area);
+    if area[AREA_WORDS] == BEFORE.into() {
+        host.write("  The 513th word is as it was");
+    }
+}
+
+/// An area of 512 words: a Run from turn 0 on, a Run of 1 from where it came to, and a Fetch.
+fn turns(host: &mut Host, sample: Sample, allowance: u16) {
+    let mut area = [BEFORE.into(); AREA_WORDS];
+    host.load(&sample.bytes()[..MATRIX_RECORD], &mut area);
+    let turn = host.run(0, allowance, &mut area);
+    let turn = host.run(turn, 1, &mut area);
+    host.fetch(turn, &area, &mut [BEFORE; RESULT_RECORD]);
 }

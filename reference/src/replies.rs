@@ -41,8 +41,8 @@ pub struct LoadReply {
 #[derive(Debug, Clone, Copy, Default, PartialEq, Eq)]
 pub struct RunReply {
     pub number: u8,
-    pub next: u32,
-    pub made: u32,
+    pub turn: u32,
+    pub count: u32,
     pub clamps: u32,
 }
 
@@ -107,7 +107,7 @@ impl RunReply {
     pub fn refused(refusal: Refusal, turn: u32) -> Self {
         RunReply {
             number: refusal.number(),
-            next: turn,
+            turn,
             ..RunReply::default()
         }
     }

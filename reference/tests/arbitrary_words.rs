@@ -62,7 +62,7 @@ fn arbitrary_words_saturate_alike() {
             let reply = both.run(turn, random.between(0, budget) as u16);
             runs += 1;
             clamps += u64::from(reply.clamps);
-            turn = reply.next;
+            turn = reply.turn;
         }
         both.fetch(turn);
     }
@@ -79,6 +79,19 @@ fn a_run_over_all_turns_always_leaves_a_result() {
         let mut both = Both::new(case);
         both.fill_area(&area);
         both.run(0, 120);
+        let reply = both.fetch(120);
+        both.require(reply.number == 0, "120 turns left no triangle");
+    }
+}
+
+#[test]
+fn areas_with_one_word_in_every_place() {
+    for (number, word) in [i32::MIN, -1, 0, 1, i32::MAX].into_iter().enumerate() {
+        let mut both = Both::new(Case::of_words("one word", 103, number as u64));
+        both.fill_area(&[word; AREA_WORDS]);
+        let reply = both.run(0, 120);
+        let clamped = word == i32::MIN || word == i32::MAX;
+        both.require(clamped == (reply.clamps > 0), "only the ends are clamped");
         let reply = both.fetch(120);
         both.require(reply.number == 0, "120 turns left no triangle");
     }

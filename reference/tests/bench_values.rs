@@ -86,15 +86,16 @@ fn records_of_257_and_258_bytes_and_areas_of_512_and_513_words() {
 #[test]
 fn allowances_around_the_number_of_turns() {
     let record = filled_with(Complex::new(-100, 77));
-    for (allowance, made) in [(119, 119), (120, 120), (121, 120)] {
+    for (allowance, count) in [(119, 119), (120, 120), (121, 120)] {
         let mut both = both("allowances", &record);
         both.load(&record);
         let reply = both.run(0, allowance);
-        assert_eq!((reply.made, reply.next, reply.clamps), (made, made, 0));
-        let accepted = both.fetch(reply.next).number == 0;
-        assert_eq!(accepted, made == 120);
-        let rest = both.run(reply.next, allowance);
-        assert_eq!((rest.number, rest.made, rest.next), (0, 120 - made, 120));
+        assert_eq!((reply.count, reply.turn, reply.clamps), (count, count, 0));
+        let accepted = both.fetch(reply.turn).number == 0;
+        assert_eq!(accepted, count == 120);
+        let rest = both.run(reply.turn, allowance);
+        assert_eq!((rest.number, rest.count), (0, 120 - count));
+        assert_eq!(rest.turn, 120);
     }
 }
 

@@ -143,8 +143,8 @@ fn work_in_instalments(both: &mut Both, random: &mut Random) {
         turn = allowed.min(TURNS);
         let expected = RunReply {
             number: 0,
-            next: turn,
-            made: turn - before,
+            turn,
+            count: turn - before,
             clamps: 0,
         };
         let reply = both.run(before, allowance);

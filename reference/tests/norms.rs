@@ -181,19 +181,19 @@ where
     fn compare_one(&self, number: u64, norm: u64, outside: Outside, met: &mut Met) {
         let case = Case::of_words(self.test, self.seed, number);
         let mut random = case.random();
-        let mut next = random.below(TURNS as usize) as u32;
-        let turn = schedule::turns()[next as usize];
-        let area = (self.make)(norm, outside, turn, &mut random);
-        match longest(&area, &(self.rows)(turn), turn.column) > u128::from(norm) {
+        let mut turn = random.below(TURNS as usize) as u32;
+        let first = schedule::turns()[turn as usize];
+        let area = (self.make)(norm, outside, first, &mut random);
+        match longest(&area, &(self.rows)(first), first.column) > u128::from(norm) {
             true => met.outside += 1,
             false => met.inside += 1,
         }
         let mut both = Both::new(case);
         both.fill_area(&area.to_words());
         for budget in self.budgets {
-            let reply = both.run(next, random.between(1, budget) as u16);
+            let reply = both.run(turn, random.between(1, budget) as u16);
             met.clamps += reply.clamps;
-            next = reply.next;
+            turn = reply.turn;
         }
     }
 }

@@ -137,6 +137,19 @@ fn fetch() {
     numbers.assert_seen(&[0, 3, 5, 6, 7, 8]);
 }
 
+/// Fetch believes the words of the area and not the turn number alone.
+#[test]
+fn fetch_at_120_of_an_area_that_is_not_worked_to_the_end() {
+    let record = write_matrix(&Kind::FullRange.matrix(&mut Random::new(304)));
+    let mut both = Both::new(Case::new("unfinished areas", 304, 0, &record));
+    both.load(&record);
+    assert_eq!(both.fetch(120).number, 8);
+    both.run(0, 119);
+    assert_eq!(both.fetch(120).number, 8);
+    both.run(119, 1);
+    assert_eq!(both.fetch(120).number, 0);
+}
+
 #[test]
 fn read() {
     let mut numbers = Numbers::new("Read");

@@ -1,4 +1,4 @@
--- The accuracy theorem, from the loaded workspace to the result, for rotations that meet `Rotated`.
+-- The accuracy theorem, from the loaded workspace to the result, for rotations that meet `GivensStep`.
 -- Assumes nothing.
 use mathlib.Core.Path.{_≡_, refl, sym, ap, _∙_, subst}
 use mathlib.Core.Logic.{_≢_}
@@ -16,11 +16,12 @@ use Rattle.integers.specs.Within.{Within}
 use Rattle.integers.proofs.Laws.{*ℤ-assoc, abs-*}
 use Rattle.integers.proofs.Sum.{sum-equal, sum-one, sum-abs}
 use Rattle.schedule.specs.Schedule.{rotationAt}
-use Rattle.records.specs.Matrix.{realEntry, loadedAt}
-use Rattle.records.specs.Result.{Matrix}
-use Rattle.records.proofs.LoadLaws.{entry-small}
-use Rattle.accuracy.specs.Demand3.{Factorization}
-use Rattle.accuracy.proofs.Grid.{gram, Rotated}
+use Rattle.integers.specs.Matrix.{Matrix}
+use Rattle.matrix_record.specs.MatrixRecord.{realEntry}
+use Rattle.matrix_record.proofs.MatrixRecord.{entry-small}
+use Rattle.workspace.specs.Loading.{loadedAt}
+use Rattle.accuracy.specs.Factorization.{Factorization}
+use Rattle.workspace.proofs.Products.{gram, GivensStep}
 use Rattle.accuracy.proofs.Gram.{gram-kept, triangular, diagonal-nonneg}
 
 module _ (rec : List ℕ) where
@@ -88,7 +89,7 @@ module _ (rec : List ℕ) where
 
     -- the theorem: from the loaded workspace, the 120 rotations of the schedule end in an accurate result
     module _ (W : ℕ → Matrix) (load : (r c : ℕ) → r < 16 → c < 32 → W 0 r c ≡ loadedAt rec r c)
-        (rotated : (k : ℕ) → k < 120 → Rotated (rotationAt k) (W k) (W (suc k))) where
+        (rotated : (k : ℕ) → k < 120 → GivensStep (rotationAt k) (W k) (W (suc k))) where
       gram-load : (a b : ℕ) → a < 32 → b < 32 → gram (W 0) a b ≡ gram (loadedAt rec) a b
       gram-load a b p q = sum-equal 16 (λ r h. ap (λ x. x *ℤ W 0 r b) (load r a h p) ∙ ap (λ x. loadedAt rec r a *ℤ x) (load r b h q))
 

@@ -1,4 +1,4 @@
--- The global part of the accuracy theorem: what holds of the workspace after k rotations of the schedule, each of which meets `Rotated`.
+-- The global part of the accuracy theorem: what holds of the workspace after k rotations of the schedule, each of which is a `GivensStep`.
 -- Assumes nothing.
 use mathlib.Core.Path.{_≡_, sym, ap, _∙_, subst, subst₂}
 use mathlib.Core.Logic.{_≢_, _⊎_, inl, inr}
@@ -11,16 +11,16 @@ use lib.IntN.{ℤ, pos, natAbs, _+ℤ_, _-ℤ_, _*ℤ_, zero-*ℤ, *ℤ-comm}
 use lib.Signed.{_≤ℤ_, ≤ℤ-refl}
 use Rattle.cordic.specs.Norm.{normBound}
 use Rattle.integers.specs.Within.{Within}
-use Rattle.integers.specs.Sum.{sum}
+use Rattle.integers.specs.Sum.{sum, total}
 use Rattle.integers.proofs.Laws.{square-is}
 use Rattle.integers.specs.Square.{square}
 use Rattle.integers.proofs.Within.{within-refl, within-trans, within-common, within-le, within-abs}
-use Rattle.integers.proofs.Sum.{sum-equal, others, sum-others, others-equal, total, sum-total, two-of-total}
+use Rattle.integers.proofs.Sum.{sum-equal, others, sum-others, others-equal, sum-total, two-of-total}
 use Rattle.integers.proofs.Claim.{both, Means, each-at}
 use Rattle.schedule.specs.declared.Rotation.{Rotation}
 use Rattle.schedule.specs.Schedule.{rotationAt}
-use Rattle.records.specs.Result.{Matrix}
-use Rattle.accuracy.proofs.Grid.{gram, pair, pairNorm, Rotated}
+use Rattle.integers.specs.Matrix.{Matrix}
+use Rattle.workspace.proofs.Products.{gram, pair, pairNorm, GivensStep}
 use Rattle.schedule.proofs.Clear.{elsewhere, apart, allApart, cleared, raised, fits, done, done-none, done-next, next-fits, rotation-shape, diagonal-raised, below-cleared}
 
 -- ---- a column's squared length
@@ -66,7 +66,7 @@ nonneg-at W (d ∷ ds) z r c m = pick m (nonneg-at W ds (z .2) r c)
 
 -- ---- one rotation
 
-module _ (t : Rotation) (W W′ : Matrix) (rotated : Rotated t W W′) where
+module _ (t : Rotation) (W W′ : Matrix) (rotated : GivensStep t W W′) where
   -- a zero stays: its column is an earlier one, or its row another
   zero-kept : (d : Rotation) → Means (apart d t) → W (d .lower) (d .column) ≡ pos 0 → W′ (d .lower) (d .column) ≡ pos 0
   zero-kept d m z = pick (m .1)
@@ -161,18 +161,18 @@ module _ (t : Rotation) (W W′ : Matrix) (rotated : Rotated t W W′) where
 -- ---- all rotations: W k is the workspace after rotations 0 to k - 1
 
 module _ (W : ℕ → Matrix)
-    (rotated : (k : ℕ) → k < 120 → Rotated (rotationAt k) (W k) (W (suc k)))
+    (rotated : (k : ℕ) → k < 120 → GivensStep (rotationAt k) (W k) (W (suc k)))
     (start : (a : ℕ) → a < 32 → natAbs (gram (W 0) a a) ≤ 2 ^ 60) where
   -- what holds after k rotations
-  record Holds (k : ℕ) : Type 0 where
+  record Invariant (k : ℕ) : Type 0 where
     left : Left (W k) (done k)
     near : (a b : ℕ) → a < 32 → b < 32 → Within (gram (W k) a b -ℤ gram (W 0) a b) (k * 2 ^ 37)
 
-  norm-of : (k : ℕ) → k ≤ 120 → Holds k → (a : ℕ) → a < 32 → natAbs (gram (W k) a a) ≤ normBound
+  norm-of : (k : ℕ) → k ≤ 120 → Invariant k → (a : ℕ) → a < 32 → natAbs (gram (W k) a a) ≤ normBound
   norm-of k h p a l = omega (arith, within-abs (gram (W k) a a) (gram (W 0) a a) (p .near a a l l), start a l)
 
   -- rotation k takes what holds after k rotations to what holds after k + 1
-  module _ (k : ℕ) (h : k < 120) (p : Holds k) where
+  module _ (k : ℕ) (h : k < 120) (p : Invariant k) where
     left-after : Left (W (suc k)) (rotationAt k ∷ done k)
     left-after = left-next (rotationAt k) (W k) (W (suc k)) (rotated k h) (done k) (next-fits k h) (p .left)
 
@@ -181,13 +181,13 @@ module _ (W : ℕ → Matrix)
         gram-step (rotationAt k) (W k) (W (suc k)) (rotated k h) (done k) (next-fits k h) (p .left) a b a<32 b<32
         (norm-of k (omega arith) p a a<32) (norm-of k (omega arith) p b b<32)
 
-    holds-next : Holds (suc k)
+    holds-next : Invariant (suc k)
     holds-next = record {
       left = subst (Left (W (suc k))) (sym (done-next k h)) left-after;
       near = λ a b a<32 b<32. within-le (within-trans (gram (W (suc k)) a b) (gram (W k) a b) (gram (W 0) a b) (near-after a b a<32 b<32) (p .near a b a<32 b<32)) (omega arith);
     }
 
-  holds : (k : ℕ) → k ≤ 120 → Holds k
+  holds : (k : ℕ) → k ≤ 120 → Invariant k
   unfolding Left
   holds zero h = record { left = subst (Left (W 0)) (sym done-none) tt; near = λ a b p q. within-refl (gram (W 0) a b) }
   holds (suc k) h = holds-next k h (holds k (omega arith))

@@ -1,12 +1,9 @@
--- From the engine's definitions to the accuracy of a list of calls, and that its premise can be met.
-pub mod Grid
+-- From the definitions of the workspace and the calls to the accuracy of a list of calls, and that its premise can be met.
 pub mod Gram
 pub mod Accurate
-pub mod Column
-pub mod Rotation
-pub mod Rotations
+pub mod WorkspaceAfter
 pub mod Loading
 pub mod Finished
-pub mod Calls
+pub mod Demand3
 pub mod Possible
-pub mod Whole
+pub mod WholeDemand3

@@ -5,20 +5,21 @@ use Prim.Native.Nat.{ℕ, _^_, _≤_, _<_}
 use lib.IntN.{ℤ, natAbs}
 use lib.ListN.{length, getD}
 use Rattle.lists.proofs.Tabulate.{length-filled}
-use Rattle.records.specs.Matrix.{realEntry, loadedAt, loadedWord, loadedWords}
-use Rattle.records.proofs.LoadLaws.{loaded-at}
-use Rattle.records.specs.Result.{R, Q, wordIn}
+use Rattle.matrix_record.specs.MatrixRecord.{realEntry}
+use Rattle.workspace.specs.Workspace.{R, Q, wordIn}
+use Rattle.workspace.specs.Loading.{loadedAt, loadedWord, loadedWords}
+use Rattle.workspace.proofs.Filled.{loaded-at}
+use Rattle.workspace.proofs.Products.{gram}
 use Rattle.accuracy.proofs.Accurate.{start, accurate}
-use Rattle.accuracy.specs.Demand3.{Factorization, workspaceAfter}
-use Rattle.accuracy.proofs.Grid.{gram}
-use Rattle.accuracy.proofs.Rotations.{after-none, after-rotated}
+use Rattle.accuracy.specs.Factorization.{Factorization}
+use Rattle.accuracy.specs.Demand3.{workspaceAfter}
+use Rattle.accuracy.proofs.WorkspaceAfter.{after-none, after-rotated}
 
 module _ (rec : List ℕ) (bytes : (k : ℕ) → getD rec k 0 < 256) (lent : List ℤ) (room : 512 ≤ length lent) where
   pub loaded-room : 512 ≤ length (loadedWords rec lent)
   loaded-room = rw (length-filled 512 (loadedWord rec) lent room) room
 
   load-at : (r c : ℕ) → r < 16 → c < 32 → wordIn (workspaceAfter (loadedWords rec lent) 0) r c ≡ loadedAt rec r c
-  unfolding wordIn
   load-at r c p q = rw (after-none (loadedWords rec lent) loaded-room) (loaded-at rec lent r c p q)
 
   -- every column is short at the start

@@ -6,16 +6,20 @@ use Prim.Native.Nat.{ℕ, zero, suc, _≤_, _<_}
 use native.Mathlib.Omega.{arith}
 use lib.Dec.{lit<, lit≤}
 use lib.IntN.{pos}
-use lib.ListN.{length, getD, replicate, length-append}
+use lib.ListN.{length, getD, replicate}
 use Rattle.lists.specs.Lists.{allBelow}
-use Rattle.records.specs.Matrix.{partOf, zeroElement, allZero}
-use Rattle.engine.specs.Rotations.{rotationsMade}
+use Rattle.lists.specs.Histories.{afterAll}
+use Rattle.lists.proofs.Histories.{Along, each-of, Idle, idle-after}
+use Rattle.refusals.specs.Refusals.{headerTest}
+use Rattle.matrix_record.specs.MatrixRecord.{partOf, zeroElement, allZero}
+use Rattle.workspace.specs.Rotations.{rotationsMade}
 use Rattle.engine.specs.Load.{loadRefusal}
 use Rattle.engine.specs.Run.{RunOutcome, runMade, runBy, runOf}
 use Rattle.engine.specs.Whole.{wholeRefusal}
-use Rattle.engine.proofs.Tests.{whole-passes, run-accepted, run-passes, fetch-accepted}
-use Rattle.accuracy.specs.Demand3.{loaded, other, Call, run, fetch, State, wordsOf, refusal, Accepted, InStep, moved, after, afterAll, Load, start, EachInStep, wholeRun, wholeFetch}
-use Rattle.accuracy.proofs.Calls.{run-cases, left-same, first, start-is, room, Holds, holds-start, holds-next, fetch-iff}
+use Rattle.engine.proofs.Accepted.{load-accepted, whole-passes, run-accepted, run-passes, fetch-accepted}
+use Rattle.accuracy.specs.Demand3.{loaded, other, Call, run, fetch, State, wordsOf, refusal, Accepted, InStep, moved, after, Load, start, EachInStep}
+use Rattle.accuracy.specs.WholeDemand3.{wholeRun, wholeFetch}
+use Rattle.accuracy.proofs.Demand3.{run-cases, left-same, first, start-is, room, Standing, standing-start, standing-next, fetch-iff}
 
 -- ---- a refused call changes nothing
 
@@ -23,41 +27,30 @@ pub refused-stays : (s : State) (c : Call) → (Accepted s c → ⊥) → after 
 unfolding runOf
 refused-stays s (fetch f) n = refl
 refused-stays s (run r) n =
-    run-cases (refusal s (run r)) (r .next) (r .budget) (wordsOf s (r .lent)) (λ k o. (k ≡ 0 → ⊥) → moved s r (o .workspace) (o .answer) ≡ s)
-    (λ m q i. record { workspace = left-same s (r .lent) i; next = s .next; granted = s .granted }) (λ q. absurd (q refl)) n
-
--- ---- the premise, call by call
-
-AllInStep : State → List Call → Type 0
-AllInStep s [] = Unit {0}
-AllInStep s (c ∷ calls) = (Accepted s c → InStep s c) × AllInStep (after s c) calls
-
-each-of : (s : State) (calls before rest : List Call) (c : Call) → AllInStep s calls → calls ≡ before ++ c ∷ rest → Accepted (afterAll s before) c → InStep (afterAll s before) c
-unfolding AllInStep afterAll
-each-of s [] before rest c a e = absurd (omega (arith, ap length e, length-append before (c ∷ rest)))
-each-of s (x ∷ xs) [] rest c a e = let h : x ≡ c = cc in subst (λ (d : Call). Accepted s d → InStep s d) h (a .0)
-each-of s (x ∷ xs) (y ∷ ys) rest c a e =
-    let h : x ≡ y = cc in
-    let t : xs ≡ ys ++ c ∷ rest = cc in
-    subst (λ (d : Call). Accepted (afterAll (after s d) ys) c → InStep (afterAll (after s d) ys) c) h (each-of (after s x) xs ys rest c (a .1) t)
+    run-cases (refusal s (run r)) (r .turn) (r .budget) (wordsOf s (r .lent)) (λ k o. (k ≡ 0 → ⊥) → moved s r o ≡ s)
+    (λ m q i. record { workspace = left-same s (r .lent) i; turn = s .turn; granted = s .granted }) (λ q. absurd (q refl)) n
 
 -- ---- refused calls among others
+
+-- the premise on a call
+abbrev Stepping : State → Call → Type 0
+Stepping s c = Accepted s c → InStep s c
 
 -- each call of the list is refused in the state s
 unfoldable pub AllRefused : State → List Call → Type 0
 AllRefused s [] = Unit {0}
 AllRefused s (c ∷ calls) = (Accepted s c → ⊥) × AllRefused s calls
 
-skip : (s : State) (calls rest : List Call) → AllRefused s calls → AllInStep s rest → AllInStep s (calls ++ rest)
-unfolding AllRefused AllInStep
+idle : (s : State) (calls : List Call) → AllRefused s calls → Idle after s calls
+unfolding AllRefused Idle
+idle s [] r = tt
+idle s (c ∷ calls) r = (refused-stays s c (r .0), idle s calls (r .1))
+
+skip : (s : State) (calls rest : List Call) → AllRefused s calls → Along after Stepping s rest → Along after Stepping s (calls ++ rest)
+unfolding AllRefused Along
 skip s [] rest r a = a
 skip s (c ∷ calls) rest r a =
-    ((λ z. absurd (r .0 z)), subst (λ (t : State). AllInStep t (calls ++ rest)) (sym (refused-stays s c (r .0))) (skip s calls rest (r .1) a))
-
-skipped : (s : State) (calls rest : List Call) → AllRefused s calls → afterAll s (calls ++ rest) ≡ afterAll s rest
-unfolding AllRefused afterAll
-skipped s [] rest r = refl
-skipped s (c ∷ calls) rest r = ap (λ (t : State). afterAll t (calls ++ rest)) (refused-stays s c (r .0)) ∙ skipped s calls rest (r .1)
+    ((λ z. absurd (r .0 z)), subst (λ (t : State). Along after Stepping t (calls ++ rest)) (sym (refused-stays s c (r .0))) (skip s calls rest (r .1) a))
 
 -- ---- a Run of 120 and a Fetch
 
@@ -67,52 +60,52 @@ ended l = after (start l) (run wholeRun)
 
 module _ (l : Load) where
   run-in-step : InStep (start l) (run wholeRun)
-  run-in-step = (refl, sym (ap (λ (s : State). s .next) (start-is l)))
+  run-in-step = (refl, sym (ap (λ (s : State). s .turn) (start-is l)))
 
-  ended-holds : Holds l (ended l)
-  ended-holds = holds-next l (start l) (run wholeRun) (holds-start l) (λ z. run-in-step)
+  ended-standing : Standing l (ended l)
+  ended-standing = standing-next l (start l) (run wholeRun) (standing-start l) (λ z. run-in-step)
 
   pub run-made : runOf 0 120 (first l) ≡ runMade 0 120 (first l)
   unfolding runOf runBy
   run-made = rw (run-passes 0 (first l) (record { room = room l; before = lit≤ tt }))
 
-  pub ended-is : ended l ≡ record { workspace = rotationsMade 0 120 (first l) .words; next = 120; granted = 120 }
+  pub ended-is : ended l ≡ record { workspace = rotationsMade 0 120 (first l); turn = 120; granted = 120 }
   unfolding runMade
   ended-is =
       ap (λ (s : State). after s (run wholeRun)) (start-is l)
-      ∙ ap (λ (o : RunOutcome). moved (record { workspace = first l; next = 0; granted = 0 }) wholeRun (o .workspace) (o .answer)) run-made
+      ∙ ap (λ (o : RunOutcome). moved (record { workspace = first l; turn = 0; granted = 0 }) wholeRun o) run-made
 
   ended-granted : ended l .granted ≡ 120
   ended-granted = ap (λ (s : State). s .granted) ended-is
 
   pub fetch-in-step : (buffer : List ℕ) → InStep (ended l) (fetch (wholeFetch buffer))
-  fetch-in-step buffer = (refl, sym (ap (λ (s : State). s .next) ended-is))
+  fetch-in-step buffer = (refl, sym (ap (λ (s : State). s .turn) ended-is))
 
   pub fetch-taken : (buffer : List ℕ) → 2049 ≤ length buffer → Accepted (ended l) (fetch (wholeFetch buffer))
-  fetch-taken buffer space = fetch-iff l (ended l) ended-holds (wholeFetch buffer) (fetch-in-step buffer) .1 (omega (arith, ended-granted), space)
+  fetch-taken buffer space = fetch-iff l (ended l) ended-standing (wholeFetch buffer) (fetch-in-step buffer) .1 (omega (arith, ended-granted), space)
 
 -- the list meets the premise, and its Fetch is accepted
 pub record Possible (l : Load) (a b c : List Call) (buffer : List ℕ) : Type 0 where
   pub in-step : EachInStep l (a ++ run wholeRun ∷ (b ++ fetch (wholeFetch buffer) ∷ c))
-  pub accepted : Accepted (afterAll (start l) (a ++ run wholeRun ∷ b)) (fetch (wholeFetch buffer))
+  pub accepted : Accepted (afterAll after (start l) (a ++ run wholeRun ∷ b)) (fetch (wholeFetch buffer))
 
 -- with any refused calls before, between and after the two
 pub possible : (l : Load) (a b c : List Call) (buffer : List ℕ) → AllRefused (start l) a → AllRefused (ended l) b → AllRefused (ended l) c → 2049 ≤ length buffer → Possible l a b c buffer
-unfolding EachInStep AllInStep afterAll
+unfolding EachInStep Along afterAll
 possible l a b c buffer ra rb rc space = record {
-  in-step = λ d p. each-of (start l) (a ++ run wholeRun ∷ (b ++ fetch (wholeFetch buffer) ∷ c)) (p .before) (p .rest) d all (p .is);
+  in-step = each-of after Stepping (start l) (a ++ run wholeRun ∷ (b ++ fetch (wholeFetch buffer) ∷ c)) all;
   accepted = subst (λ (s : State). Accepted s (fetch (wholeFetch buffer))) (sym there) (fetch-taken l buffer space);
 }
   where
-    last : AllInStep (ended l) c
-    last = subst (AllInStep (ended l)) (append-nil c) (skip (ended l) c [] rc tt)
+    last : Along after Stepping (ended l) c
+    last = subst (Along after Stepping (ended l)) (append-nil c) (skip (ended l) c [] rc tt)
 
-    all : AllInStep (start l) (a ++ run wholeRun ∷ (b ++ fetch (wholeFetch buffer) ∷ c))
+    all : Along after Stepping (start l) (a ++ run wholeRun ∷ (b ++ fetch (wholeFetch buffer) ∷ c))
     all = skip (start l) a (run wholeRun ∷ (b ++ fetch (wholeFetch buffer) ∷ c)) ra
         ((λ z. run-in-step l), skip (ended l) b (fetch (wholeFetch buffer) ∷ c) rb ((λ z. fetch-in-step l buffer), last))
 
-    there : afterAll (start l) (a ++ run wholeRun ∷ b) ≡ ended l
-    there = skipped (start l) a (run wholeRun ∷ b) ra ∙ ap (afterAll (ended l)) (sym (append-nil b)) ∙ skipped (ended l) b [] rb
+    there : afterAll after (start l) (a ++ run wholeRun ∷ b) ≡ ended l
+    there = idle-after after (start l) a (run wholeRun ∷ b) (idle (start l) a ra) ∙ ap (afterAll after (ended l)) (sym (append-nil b)) ∙ idle-after after (ended l) b [] (idle (ended l) b rb)
 
 -- the two alone: what an accepted Whole does
 pub alone : (l : Load) (buffer : List ℕ) → 2049 ≤ length buffer → Possible l [] [] [] buffer
@@ -121,16 +114,16 @@ alone l buffer space = possible l [] [] [] buffer tt tt tt space
 
 -- and Whole accepts it, with the same buffer
 pub whole-possible : (l : Load) (buffer : List ℕ) → 2049 ≤ length buffer → wholeRefusal (l .bytes) (l .lent) buffer ≡ 0
-whole-possible l buffer space = whole-passes (l .bytes) (l .lent) buffer (l .accepted) space
+whole-possible l buffer space = whole-passes (l .bytes) (l .lent) buffer (record { load = load-accepted (l .bytes) (l .lent) (l .accepted); space = space })
 
 -- ---- refused calls: a Run past the last turn, a Run on a short workspace, a Fetch before the last turn, a Fetch with a short buffer
 
 unfoldable pub stray : List Call
 stray =
-    run (record { next = 121; budget = 7; lent = loaded })
-    ∷ run (record { next = 0; budget = 120; lent = other [] })
-    ∷ fetch (record { next = 119; lent = loaded; buffer = replicate 2049 0 })
-    ∷ fetch (record { next = 120; lent = loaded; buffer = [] })
+    run (record { turn = 121; budget = 7; lent = loaded })
+    ∷ run (record { turn = 0; budget = 120; lent = other [] })
+    ∷ fetch (record { turn = 119; lent = loaded; buffer = replicate 2049 0 })
+    ∷ fetch (record { turn = 120; lent = loaded; buffer = [] })
     ∷ []
 
 stray-refused : (s : State) → AllRefused s stray
@@ -154,7 +147,7 @@ zeros (suc n) zero = refl
 zeros (suc n) (suc k) = zeros n k
 
 pub some-load : Load
-unfolding loadRefusal allZero allBelow zeroElement partOf
+unfolding loadRefusal headerTest allZero allBelow zeroElement partOf
 some-load = record { bytes = 1 ∷ 0 ∷ 1 ∷ replicate 254 0; lent = replicate 512 (pos 0); small = small; accepted = refl }
   where
     small : (k : ℕ) → getD (1 ∷ 0 ∷ 1 ∷ replicate 254 0) k 0 < 256

@@ -1,12 +1,10 @@
-// Digests of memory: the elements are the digits of a number in base 1000003, which is taken modulo a prime. The prime is above 2^32, so that
-// no change of a single word goes unseen.
-ghost use Prim.Native.Nat.{_<_};
-
+// Digests of memory: its bytes are the digits of a number in base 1000003. Only the remainder by a prime is carried on, so that the number stays
+// below 2^60 and a change of a single byte is always seen. A word counts as its four bytes, high byte first.
 pub fn of_words(words: &[i32]) -> u64 {
     let mut digest = 1;
     let mut i = 0;
     while i < words.len() {
-        digest = append(digest, unsigned(words[i]));
+        digest = append_word(digest, words[i]);
         i += 1;
     }
     digest
@@ -16,28 +14,18 @@ pub fn of_bytes(bytes: &[u8]) -> u64 {
     let mut digest = 1;
     let mut i = 0;
     while i < bytes.len() {
-        digest = append(digest, wide(bytes[i]));
+        digest = append(digest, bytes[i]);
         i += 1;
     }
     digest
 }
 
-fn append(digest: u64, element: u64) -> u64
-    requires { ⌜ (digest < 1099511627689) × (element < 4294967296) ⌝ }
-    ensures { λ r. ⌜ r < 1099511627689 ⌝ }
-{
-    (digest * 1000003 + element) % 1099511627689
+fn append_word(digest: u64, word: i32) -> u64 {
+    let bytes = words::word_bytes(word);
+    let high = append(append(digest, bytes[0]), bytes[1]);
+    append(append(high, bytes[2]), bytes[3])
 }
 
-// A word as a number that is not negative: its distance from the lowest word.
-fn unsigned(word: i32) -> u64
-    ensures { λ r. ⌜ r < 4294967296 ⌝ }
-{
-    (word as i64 + 2147483648) as u64
-}
-
-fn wide(byte: u8) -> u64
-    ensures { λ r. ⌜ r < 4294967296 ⌝ }
-{
-    byte as u64
+fn append(digest: u64, byte: u8) -> u64 {
+    digest % 1099511627689 * 1000003 + byte as u64
 }

@@ -1,50 +1,46 @@
-// Executes the script on standard input, the run-only cases of document 01 and every refusal of every call. Each of its lines is written
-// again, with the reply of the call and the digests of the memory before and after.
+// Executes the run-only cases of document 01, "Bench values", through the calls that hosts link. Each call becomes a line: what was handed
+// over, the reply, and digests of the memory that it may write to.
+mod calls;
 mod digest;
-mod fetch;
-mod fields;
-mod load;
 mod matrix;
-mod memory;
 mod print;
-mod read;
-mod run;
-mod script;
-mod steps;
-mod whole;
 
-use libc::STDIN_FILENO;
-use memory::Area;
-use memory::Buffer;
-use script::Line;
+use matrix::Matrix;
 
 fn main() {
-    let mut script = [0u8; 8192];
-    let count = io::read_full(STDIN_FILENO, &mut script);
-    let mut area = memory::area();
-    let mut buffer = memory::buffer();
-    execute(&script[..count], &mut area, &mut buffer);
+    print::text(b"A matrix with parts of all sizes\n");
+    sizes(Matrix::Full);
+    allowance(Matrix::Full, 119);
+    allowance(Matrix::Full, 120);
+    allowance(Matrix::Full, 121);
+    print::text(b"A single element 1\n");
+    sizes(Matrix::Single);
+    allowance(Matrix::Single, 120);
+    print::text(b"All parts -32768\n");
+    sizes(Matrix::Lowest);
+    allowance(Matrix::Lowest, 120);
 }
 
-fn execute(script: &[u8], area: &mut Area, buffer: &mut Buffer) {
-    let mut line = Line::empty();
-    let mut i = 0;
-    while i < script.len() {
-        line = taken(line, script[i], area, buffer);
-        i += 1;
+// An area of 513 words, with a 7 in each before: a record of 257 bytes, then 258 bytes, which are refused and change nothing, then all turns.
+// No call may change the 513th word.
+fn sizes(matrix: Matrix) {
+    let record = matrix::record(matrix);
+    let mut area = [7i32; 513];
+    calls::load(&record[0..257], &mut area);
+    calls::load(&record, &mut area);
+    calls::run(0, 120, &mut area);
+    if area[512] == 7 {
+        print::text(b"  The 513th word is as it was\n");
     }
 }
 
-// Takes one byte more of the script. Answers what there is of its line.
-fn taken(line: Line, byte: u8, area: &mut Area, buffer: &mut Buffer) -> Line {
-    if byte != b'\n' {
-        print::byte(byte);
-        return line.with(byte);
-    }
-    let fields = line.fields();
-    if fields[0] != 0 {
-        steps::make(fields, area, buffer);
-    }
-    print::byte(b'\n');
-    Line::empty()
+// An area of 512 words: a Run from turn 0 on, then a Run of 1, which makes the last turn after 119 turns and none at turn 120, then a Fetch.
+fn allowance(matrix: Matrix, allowance: u16) {
+    let record = matrix::record(matrix);
+    let mut area = [7i32; 512];
+    let mut buffer = [7u8; 2049];
+    calls::load(&record[0..257], &mut area);
+    let turn = calls::run(0, allowance, &mut area);
+    let last = calls::run(turn, 1, &mut area);
+    calls::fetch(last, &area, &mut buffer);
 }

@@ -1,6 +1,7 @@
-// The matrix records of the script.
-use crate::memory;
+// The matrix records of the cases.
+ghost use mathlib.Core.Path.{_≡_};
 ghost use Prim.Native.Nat.{_<_};
+ghost use lib.ListN.{length};
 
 pub enum Matrix {
     // Parts of all sizes.
@@ -9,58 +10,28 @@ pub enum Matrix {
     Single,
     // All parts are -32768.
     Lowest,
-    Zero,
-    // The kind byte is that of a result record.
-    Other,
 }
 
-// The names of matrices, each by its first two letters.
-const SINGLE: u64 = b's' as u64 * 256 + b'i' as u64;
-
-const LOWEST: u64 = b'l' as u64 * 256 + b'o' as u64;
-
-const ZERO: u64 = b'z' as u64 * 256 + b'e' as u64;
-
-const OTHER: u64 = b'o' as u64 * 256 + b't' as u64;
-
-// The matrix that a word of the script names.
-pub fn named(word: u64) -> Matrix {
-    match word {
-        SINGLE => Matrix::Single,
-        LOWEST => Matrix::Lowest,
-        ZERO => Matrix::Zero,
-        OTHER => Matrix::Other,
-        _ => Matrix::Full,
-    }
-}
-
-// The record's 257 bytes and one more, so that more can be handed over than a record has.
-pub fn bytes(matrix: Matrix) -> [u8; 258] {
-    let mut bytes = [0u8; 258];
-    let mut i = 0;
+// The 257 bytes of a record, and one more to hand over 258.
+pub fn record(matrix: Matrix) -> [u8; 258]
+    ensures { λ r. ⌜ 258 ≡ length r ⌝ }
+{
+    let mut bytes = [1u8; 258];
+    let mut i = 1;
     while i < 258 {
         bytes[i] = byte(matrix, i);
         i += 1;
     }
-    bytes[0] = kind(matrix);
     bytes
 }
 
-fn kind(matrix: Matrix) -> u8 {
-    match matrix {
-        Matrix::Other => 2,
-        _ => 1,
-    }
-}
-
-// The record's byte i, where that is not the kind byte.
+// The byte at place i behind the kind byte. Those of the full matrix look random.
 fn byte(matrix: Matrix, i: usize) -> u8
     requires { ⌜ i < 258 ⌝ }
 {
     match matrix {
+        Matrix::Full => ((i as u64 * 1103515245 + 12345) / 65536 % 256) as u8,
         Matrix::Single => { if i == 2 { 1 } else { 0 } }
         Matrix::Lowest => { if i % 2 == 1 { 128 } else { 0 } }
-        Matrix::Zero => 0,
-        _ => memory::noise_byte(i),
     }
 }

@@ -1,29 +1,29 @@
 // Text and numbers on standard output.
 use libc::STDOUT_FILENO;
 
-pub fn byte(byte: u8) {
-    let text = [byte];
-    io::write_all(STDOUT_FILENO, &text);
+pub fn text(text: &[u8]) {
+    io::write_all(STDOUT_FILENO, text);
 }
 
-// Writes a text with the numbers in the places of its % signs.
-pub fn numbers(text: &[u8], numbers: &[u64]) {
+// Writes a line with the numbers in the places of its % signs.
+pub fn line(line: &[u8], numbers: &[u64]) {
     let mut used = 0;
     let mut i = 0;
-    while i < text.len() {
-        used = put(text[i], numbers, used);
+    while i < line.len() {
+        used = put(line[i], numbers, used);
         i += 1;
     }
 }
 
-// Writes a byte of a text, or the next number in the place of a % sign. Answers how many numbers are used.
-fn put(text: u8, numbers: &[u64], used: usize) -> usize {
-    if text == b'%' {
+// Writes a byte of a line, or the next number in the place of a % sign. Answers how many numbers are used.
+fn put(byte: u8, numbers: &[u64], used: usize) -> usize {
+    if byte == b'%' {
         if used < numbers.len() {
             io::print_decimal(STDOUT_FILENO, numbers[used]);
             return used + 1;
         }
     }
-    byte(text);
+    let bytes = [byte];
+    io::write_all(STDOUT_FILENO, &bytes);
     used
 }

@@ -10,7 +10,7 @@ use lib.Pow.{shr-mono}
 use mir.Syntax.{w64}
 use mir.Val.{toZ, ofZ}
 use Rattle.cordic.specs.declared.Pair.{Pair}
-use Rattle.cordic.specs.Word.{InRange}
+use Rattle.cordic.specs.Range.{InRange}
 use Rattle.cordic.specs.MicroRotation.{microRotation, microRotations, leading, sign}
 use Rattle.integers.proofs.Magnitude.{mag-add, mag-sub, mag-shr-is, read-back, nonneg-test}
 

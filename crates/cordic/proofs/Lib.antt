@@ -6,4 +6,4 @@ pub mod Step
 pub mod Telescope
 pub mod Residue
 pub mod Scale
-pub mod Rotation
+pub mod ColumnRotation

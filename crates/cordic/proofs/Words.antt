@@ -9,7 +9,8 @@ use lib.Signed.{mag, natAbs-le}
 use borrow.Author.Tests.{le-ltb}
 use mir.Syntax.{w32, w64}
 use mir.Val.{SFits, toZ, ofZ}
-use Rattle.cordic.specs.Word.{gain, InRange, scaled, saturate}
+use Rattle.cordic.specs.Word.{gain, scaled, saturate}
+use Rattle.cordic.specs.Range.{InRange}
 use Rattle.cordic.specs.MicroRotation.{oriented, orientedPair}
 use Rattle.integers.proofs.Within.{within, within-fits}
 use Rattle.integers.proofs.Magnitude.{mag-neg, read-back}

@@ -3,3 +3,4 @@ pub mod Word
 pub mod MicroRotation
 pub mod Gain
 pub mod Norm
+pub mod Range

@@ -1,4 +1,5 @@
--- The size of a column's two words, and how large it may be where a rotation is to stay in 32 bits. Assumes nothing.
+-- Only laws and the contracts of inner functions use this: the size of a column's two words, and how large it may be where a rotation is to stay in 32
+-- bits. Assumes nothing.
 use Prim.Native.Nat.{ℕ, _+_, _-_, _^_}
 use lib.IntN.{ℤ, _+ℤ_, _*ℤ_}
 use Rattle.integers.specs.Within.{Within}

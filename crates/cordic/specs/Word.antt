@@ -1,11 +1,10 @@
 -- Document 01, "The words" and steps 3 and 4 of "One turn": how a word is scaled and stored. `shrZ z (2 ^ k)` is the language's own signed
 -- shift to the right by k, which rounds down: -1 shifted stays -1. Assumes nothing.
-use Prim.Native.Nat.{ℕ, _^_, _≤_}
+use Prim.Native.Nat.{ℕ, _^_}
 use mathlib.Core.Bool.{true, false, cond}
 use lib.IntN.{ℤ, pos, negsuc, _+ℤ_, _*ℤ_}
-use lib.Signed.{ltZ, mag, shrZ}
+use lib.Signed.{ltZ, shrZ}
 use Rattle.cordic.specs.declared.Word.{Word}
-use Rattle.cordic.specs.declared.Pair.{Pair}
 
 -- the gain: what 28 micro-rotations stretch is scaled by gain / 2^30
 abbrev pub gain : ℕ
@@ -21,8 +20,3 @@ saturate s =
     cond (ltZ s (negsuc 2147483647)) (record { value = negsuc 2147483647; saturated = true })
     (cond (ltZ (pos 2147483647) s) (record { value = pos 2147483647; saturated = true })
     (record { value = s; saturated = false }))
-
--- both words of a pair lie from -(b + 1) to b
-pub record InRange (b : ℕ) (p : Pair) : Type 0 where
-  pub upper : mag (p .u) ≤ b
-  pub lower : mag (p .v) ≤ b

@@ -3,7 +3,8 @@
 ghost use mathlib.Core.Path.{_≡_};
 ghost use Prim.Native.Nat.{_+_, _<_, _≤_, _^_};
 ghost use lib.Signed.{mag};
-ghost use Rattle.cordic.specs.Word.{InRange, scaled, saturate};
+ghost use Rattle.cordic.specs.Word.{scaled, saturate};
+ghost use Rattle.cordic.specs.Range.{InRange};
 ghost use Rattle.cordic.specs.MicroRotation.{microRotation, oriented as orientedZ};
 
 // A 32-bit word as it is stored, and whether saturation altered it.

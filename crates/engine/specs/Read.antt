@@ -2,33 +2,25 @@
 use Prim.Native.Nat.{ℕ, zero, suc}
 use mathlib.Core.List.{List}
 use lib.IntN.{ℤ}
-use Rattle.lists.specs.Lists.{filled}
-use Rattle.records.specs.Result.{resultTag, resultBytes, workspaceWord}
-use Rattle.engine.specs.Tests.{test1, test2, test3, test8}
-use Rattle.engine.specs.declared.read.ReadAnswer.{ReadAnswer}
-use Rattle.engine.specs.declared.read.ReadAnswer.the-variants.{Filled, Refused}
+use Rattle.refusals.specs.Refusals.{first, headerTest}
+use Rattle.result_record.specs.ResultRecord.{resultTag, resultBytes, resultTest, recordR}
+use Rattle.schedule.specs.Schedule.{rotationCount}
+use Rattle.workspace.specs.Workspace.{workspaceTest}
+use Rattle.workspace.specs.Reading.{readWords}
+use Rattle.engine.specs.declared.read.ReadReply.{ReadReply}
 
 pub record ReadOutcome : Type 0 where
-  pub answer : ReadAnswer
+  pub reply : ReadReply
   pub workspace : List ℤ
 
 -- tests 1, 2, 3, 8
 unfoldable pub readRefusal : List ℕ → List ℤ → ℕ
-readRefusal rec workspace = test1 resultTag rec (test2 resultBytes rec (test3 workspace (test8 (workspaceWord rec) 0)))
+readRefusal rec workspace = first (headerTest resultTag resultBytes rec) (first (workspaceTest workspace) (resultTest (recordR rec)))
 
--- by that number. The first 512 words are filled, the rest is as before; a refusal changes nothing
+-- by that number. The workspace is filled, and turn number 120 is answered; a refusal answers its number alone, other fields 0, and changes nothing
 unfoldable pub readBy : ℕ → List ℕ → List ℤ → ReadOutcome
-readBy zero rec workspace = record { answer = Filled 120; workspace = filled 512 (workspaceWord rec) workspace }
-readBy (suc n) rec workspace = record { answer = Refused (suc n); workspace = workspace }
+readBy zero rec workspace = record { reply = record { number = 0; turn = rotationCount }; workspace = readWords rec workspace }
+readBy (suc n) rec workspace = record { reply = record { number = suc n; turn = 0 }; workspace = workspace }
 
 unfoldable pub readOf : List ℕ → List ℤ → ReadOutcome
 readOf rec workspace = readBy (readRefusal rec workspace) rec workspace
-
--- document 01's number and value for each answer
-pub record ReadReply : Type 0 where
-  pub number : ℕ
-  pub turn : ℕ
-
-abbrev pub readReply : ReadAnswer → ReadReply
-readReply (Filled next) = record { number = 0; turn = next }
-readReply (Refused number) = record { number = number; turn = 0 }

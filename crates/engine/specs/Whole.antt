@@ -3,46 +3,40 @@ use Prim.Native.Nat.{ℕ, zero, suc}
 use mathlib.Core.List.{List}
 use lib.IntN.{ℤ}
 use Rattle.lists.specs.Lists.{filled}
-use Rattle.records.specs.Matrix.{matrixTag, matrixBytes, loadedWords, heardByte}
-use Rattle.records.specs.Result.{R, Q, resultBytes, resultByte}
-use Rattle.engine.specs.Tests.{test1, test2, test3, test4, test7}
-use Rattle.engine.specs.Rotations.{rotationsMade}
-use Rattle.engine.specs.declared.whole.WholeAnswer.{WholeAnswer}
-use Rattle.engine.specs.declared.whole.WholeAnswer.the-variants.{Factored, Refused}
+use Rattle.refusals.specs.Refusals.{first, headerTest, bufferTest}
+use Rattle.matrix_record.specs.MatrixRecord.{matrixTag, matrixBytes, matrixTest, heardByte}
+use Rattle.result_record.specs.ResultRecord.{resultBytes, resultByte}
+use Rattle.schedule.specs.Schedule.{rotationCount}
+use Rattle.workspace.specs.Workspace.{workspaceTest, R, Q}
+use Rattle.workspace.specs.Loading.{loadedWords}
+use Rattle.workspace.specs.Rotations.{rotationsMade, rotationsTally}
+use Rattle.engine.specs.declared.whole.WholeReply.{WholeReply}
 
 pub record WholeOutcome : Type 0 where
-  pub answer : WholeAnswer
+  pub reply : WholeReply
   pub workspace : List ℤ
   pub buffer : List ℕ
 
 -- tests 1, 2, 3, 7, 4
 unfoldable pub wholeRefusal : List ℕ → List ℤ → List ℕ → ℕ
-wholeRefusal rec workspace buffer = test1 matrixTag rec (test2 matrixBytes rec (test3 workspace (test7 buffer (test4 rec 0))))
+wholeRefusal rec workspace buffer =
+    first (headerTest matrixTag matrixBytes rec) (first (workspaceTest workspace) (first (bufferTest resultBytes buffer) (matrixTest rec)))
 
 -- the workspace is left as Load and the 120 rotations make it, and the buffer holds the record of its R and Q
 unfoldable pub wholeDone : List ℕ → List ℤ → List ℕ → WholeOutcome
 wholeDone rec workspace buffer =
-    let r = rotationsMade 0 120 (loadedWords rec workspace) in
+    let loaded = loadedWords rec workspace in
+    let words = rotationsMade 0 rotationCount loaded in
     record {
-      answer = Factored (heardByte rec) (r .saturations);
-      workspace = r .words;
-      buffer = filled resultBytes (resultByte (R (r .words)) (Q (r .words))) buffer;
+      reply = record { number = 0; heard = heardByte rec; clamps = rotationsTally 0 rotationCount loaded .saturations };
+      workspace = words;
+      buffer = filled resultBytes (resultByte (R words) (Q words)) buffer;
     }
 
--- by the number of the tests; a refusal changes nothing
+-- by the number of the tests; a refusal answers its number alone, other fields 0, and changes nothing
 unfoldable pub wholeBy : ℕ → List ℕ → List ℤ → List ℕ → WholeOutcome
 wholeBy zero rec workspace buffer = wholeDone rec workspace buffer
-wholeBy (suc n) rec workspace buffer = record { answer = Refused (suc n); workspace = workspace; buffer = buffer }
+wholeBy (suc n) rec workspace buffer = record { reply = record { number = suc n; heard = 0; clamps = 0 }; workspace = workspace; buffer = buffer }
 
 unfoldable pub wholeOf : List ℕ → List ℤ → List ℕ → WholeOutcome
 wholeOf rec workspace buffer = wholeBy (wholeRefusal rec workspace buffer) rec workspace buffer
-
--- document 01's number and values for each answer: a refusal answers its number alone, other fields 0
-pub record WholeReply : Type 0 where
-  pub number : ℕ
-  pub heard : ℕ
-  pub clamps : ℕ
-
-abbrev pub wholeReply : WholeAnswer → WholeReply
-wholeReply (Factored heard clamps) = record { number = 0; heard = heard; clamps = clamps }
-wholeReply (Refused number) = record { number = number; heard = 0; clamps = 0 }

@@ -1,43 +1,37 @@
-// Fetch: the result record of a finished workspace. Read takes it back to the same words: `specs/RoundTrip.antt`.
+// Fetch: the result record of a finished workspace.
 ghost use mathlib.Core.Path.{_≡_};
 ghost use Rattle.engine.specs.Fetch.{FetchOutcome, fetchRefusal, fetchOf};
 
-// The record is written, or the refusal's number.
-pub enum FetchAnswer {
-    Written,
-    Refused { number: u8 },
-}
-
 // The number of the first test that fails, 0 for none.
-fn fetch_refusal(next: u32, workspace: &[i32], buffer: &[u8]) -> u8
-    ensures { λ r. ⌜ r ≡ fetchRefusal next (now (workspace .entry)) (now (buffer .entry)) ⌝ }
+pub fn fetch_refusal(turn: u32, workspace: &[i32], buffer: &[u8]) -> u8
+    ensures { λ r. ⌜ r ≡ fetchRefusal turn (now (workspace .entry)) (now (buffer .entry)) ⌝ }
 {
-    if workspace.len() < 512 {
-        return 3;
+    if workspace.len() < workspace::WORDS {
+        return refusals::SHORT_WORKSPACE;
     }
-    if 120 < next {
-        return 5;
+    if schedule::COUNT < turn as usize {
+        return refusals::NO_SUCH_TURN;
     }
-    if next < 120 {
-        return 6;
+    if (turn as usize) < schedule::COUNT {
+        return refusals::UNFINISHED;
     }
-    if buffer.len() < 2049 {
-        return 7;
+    if buffer.len() < result_record::BYTES {
+        return refusals::SHORT_BUFFER;
     }
-    if !records::result::finished(workspace) {
-        return 8;
+    if !workspace::result::finished(workspace) {
+        return refusals::NOT_TRIANGULAR;
     }
     0
 }
 
-// Writes the result record of a finished workspace, or refuses and changes nothing.
-pub fn fetch(next: u32, workspace: &[i32], buffer: &mut [u8]) -> FetchAnswer
-    ensures { λ r. ⌜ record { answer = r; buffer = now (buffer .exit) } ≡ fetchOf next (now (workspace .entry)) (now (buffer .entry)) ⌝ }
+// Writes the result record of a finished workspace, or refuses and changes nothing. Answers the refusal's number, 0 for none.
+pub fn fetch(turn: u32, workspace: &[i32], buffer: &mut [u8]) -> u8
+    ensures { λ r. ⌜ record { number = r; buffer = now (buffer .exit) } ≡ fetchOf turn (now (workspace .entry)) (now (buffer .entry)) ⌝ }
 {
-    let number = fetch_refusal(next, workspace, buffer);
+    let number = fetch_refusal(turn, workspace, buffer);
     if number != 0 {
-        return FetchAnswer::Refused { number };
+        return number;
     }
-    records::result::write(workspace, buffer);
-    FetchAnswer::Written
+    workspace::result::write(workspace, buffer);
+    0
 }

@@ -2,43 +2,51 @@
 ghost use mathlib.Core.Path.{_≡_};
 ghost use Rattle.engine.specs.Load.{LoadOutcome, loadRefusal, loadOf};
 
-// The next rotation's number and the heard byte, or the refusal's number.
-pub enum LoadAnswer {
-    Loaded { next: u32, heard: u8 },
-    Refused { number: u8 },
+// The turn number of a loaded workspace.
+const FIRST_TURN: u32 = 0;
+
+// The refusal's number, the heard byte and the turn number.
+#[repr(C)]
+pub struct LoadReply {
+    pub number: u8,
+    pub heard: u8,
+    pub turn: u32,
 }
 
 // The number of the first test that fails, 0 for none.
-fn load_refusal(bytes: &[u8], workspace: &[i32]) -> u8
+pub fn load_refusal(bytes: &[u8], workspace: &[i32]) -> u8
     ensures { λ r. ⌜ r ≡ loadRefusal (now (bytes .entry)) (now (workspace .entry)) ⌝ }
 {
-    if bytes.len() == 0 {
-        return 1;
+    let number = refusals::header_refusal(bytes, matrix_record::TAG, matrix_record::BYTES);
+    if number != 0 {
+        return number;
     }
-    if bytes[0] != 1 {
-        return 1;
+    if workspace.len() < workspace::WORDS {
+        return refusals::SHORT_WORKSPACE;
     }
-    if bytes.len() != 257 {
-        return 2;
-    }
-    if workspace.len() < 512 {
-        return 3;
-    }
-    if records::matrix::all_zero(bytes) {
-        return 4;
+    if matrix_record::all_zero(bytes) {
+        return refusals::SILENT;
     }
     0
 }
 
 // Loads a matrix record, or refuses and changes nothing.
-pub fn load(bytes: &[u8], workspace: &mut [i32]) -> LoadAnswer
-    ensures { λ r. ⌜ record { answer = r; workspace = now (workspace .exit) } ≡ loadOf (now (bytes .entry)) (now (workspace .entry)) ⌝ }
+pub fn load(bytes: &[u8], workspace: &mut [i32]) -> LoadReply
+    ensures { λ r. ⌜ record { reply = r; workspace = now (workspace .exit) } ≡ loadOf (now (bytes .entry)) (now (workspace .entry)) ⌝ }
 {
     let number = load_refusal(bytes, workspace);
     if number != 0 {
-        return LoadAnswer::Refused { number };
+        return LoadReply {
+            number,
+            heard: 0,
+            turn: 0,
+        };
     }
-    records::matrix::fill(bytes, workspace);
-    let heard = records::matrix::heard_byte(bytes);
-    LoadAnswer::Loaded { next: 0, heard }
+    workspace::loading::fill_from_matrix(bytes, workspace);
+    let heard = matrix_record::heard_byte(bytes);
+    LoadReply {
+        number: 0,
+        heard,
+        turn: FIRST_TURN,
+    }
 }

@@ -1,13 +1,28 @@
-// Run: some of the rotations that remain. Two Runs in a row make what one with the sum of their budgets makes: `specs/Spread.antt`.
-use crate::rotations::make_rotations;
+// Run: some of the turns that remain.
 ghost use mathlib.Core.Path.{_≡_};
 ghost use Prim.Native.Nat.{min};
-ghost use Rattle.engine.specs.Run.{RunOutcome, runOf};
+ghost use Rattle.engine.specs.Run.{RunOutcome, runRefusal, runOf};
 
-// The next rotation's number, the rotations made and the clamps of this call; or the refusal's number.
-pub enum RunAnswer {
-    Made { next: u32, made: u32, clamps: u32 },
-    Refused { number: u8 },
+// The refusal's number, the next turn number, and the turns made and the clamps of this call.
+#[repr(C)]
+pub struct RunReply {
+    pub number: u8,
+    pub turn: u32,
+    pub count: u32,
+    pub clamps: u32,
+}
+
+// The number of the first test that fails, 0 for none.
+pub fn run_refusal(turn: u32, workspace: &[i32]) -> u8
+    ensures { λ r. ⌜ r ≡ runRefusal turn (now (workspace .entry)) ⌝ }
+{
+    if workspace.len() < workspace::WORDS {
+        return refusals::SHORT_WORKSPACE;
+    }
+    if schedule::COUNT < turn as usize {
+        return refusals::NO_SUCH_TURN;
+    }
+    0
 }
 
 fn smaller(a: usize, b: usize) -> usize
@@ -16,24 +31,30 @@ fn smaller(a: usize, b: usize) -> usize
     if a < b { a } else { b }
 }
 
-// Makes at most `budget` of the rotations that remain from rotation number `next` on, or refuses and changes nothing.
-pub fn run(next: u32, budget: u16, workspace: &mut [i32]) -> RunAnswer
-    ensures { λ r. ⌜ record { answer = r; workspace = now (workspace .exit) } ≡ runOf next budget (now (workspace .entry)) ⌝ }
+// Makes at most `budget` of the turns that remain from turn number `turn` on, or refuses and changes nothing.
+pub fn run(turn: u32, budget: u16, workspace: &mut [i32]) -> RunReply
+    ensures { λ r. ⌜ record { reply = r; workspace = now (workspace .exit) } ≡ runOf turn budget (now (workspace .entry)) ⌝ }
 {
-    if workspace.len() < 512 {
-        return RunAnswer::Refused { number: 3 };
+    let number = run_refusal(turn, workspace);
+    if number != 0 {
+        return RunReply {
+            number,
+            turn,
+            count: 0,
+            clamps: 0,
+        };
     }
-    if 120 < next {
-        return RunAnswer::Refused { number: 5 };
-    }
-    let first = next as usize;
-    let left = 120 - first;
-    let made = smaller(budget as usize, left);
-    let clamps = make_rotations(first, made, workspace);
-    let after = first + made;
-    RunAnswer::Made {
-        next: after as u32,
-        made: made as u32,
-        clamps,
+    let first = turn as usize;
+    let left = schedule::COUNT - first;
+    let count = smaller(budget as usize, left);
+    let tally = workspace::rotations::make_rotations(first, count, workspace);
+    let after = first + count;
+    let next = after as u32;
+    let made = count as u32;
+    RunReply {
+        number: 0,
+        turn: next,
+        count: made,
+        clamps: tally.saturations,
     }
 }

@@ -1,50 +1,54 @@
-// Whole: Load, all rotations and the result record in one call.
-use crate::rotations::make_rotations;
+// Whole: Load, all turns and the result record in one call.
 ghost use mathlib.Core.Path.{_≡_};
 ghost use Rattle.engine.specs.Whole.{WholeOutcome, wholeRefusal, wholeOf};
 
-// The heard byte and the clamps, or the refusal's number.
-pub enum WholeAnswer {
-    Factored { heard: u8, clamps: u32 },
-    Refused { number: u8 },
+// The refusal's number, the heard byte and the clamps.
+#[repr(C)]
+pub struct WholeReply {
+    pub number: u8,
+    pub heard: u8,
+    pub clamps: u32,
 }
 
 // The number of the first test that fails, 0 for none.
-fn whole_refusal(bytes: &[u8], workspace: &[i32], buffer: &[u8]) -> u8
+pub fn whole_refusal(bytes: &[u8], workspace: &[i32], buffer: &[u8]) -> u8
     ensures { λ r. ⌜ r ≡ wholeRefusal (now (bytes .entry)) (now (workspace .entry)) (now (buffer .entry)) ⌝ }
 {
-    if bytes.len() == 0 {
-        return 1;
+    let number = refusals::header_refusal(bytes, matrix_record::TAG, matrix_record::BYTES);
+    if number != 0 {
+        return number;
     }
-    if bytes[0] != 1 {
-        return 1;
+    if workspace.len() < workspace::WORDS {
+        return refusals::SHORT_WORKSPACE;
     }
-    if bytes.len() != 257 {
-        return 2;
+    if buffer.len() < result_record::BYTES {
+        return refusals::SHORT_BUFFER;
     }
-    if workspace.len() < 512 {
-        return 3;
-    }
-    if buffer.len() < 2049 {
-        return 7;
-    }
-    if records::matrix::all_zero(bytes) {
-        return 4;
+    if matrix_record::all_zero(bytes) {
+        return refusals::SILENT;
     }
     0
 }
 
 // Factors a matrix record into a result record, or refuses and changes nothing.
-pub fn whole(bytes: &[u8], workspace: &mut [i32], buffer: &mut [u8]) -> WholeAnswer
-    ensures { λ r. ⌜ record { answer = r; workspace = now (workspace .exit); buffer = now (buffer .exit) } ≡ wholeOf (now (bytes .entry)) (now (workspace .entry)) (now (buffer .entry)) ⌝ }
+pub fn whole(bytes: &[u8], workspace: &mut [i32], buffer: &mut [u8]) -> WholeReply
+    ensures { λ r. ⌜ record { reply = r; workspace = now (workspace .exit); buffer = now (buffer .exit) } ≡ wholeOf (now (bytes .entry)) (now (workspace .entry)) (now (buffer .entry)) ⌝ }
 {
     let number = whole_refusal(bytes, workspace, buffer);
     if number != 0 {
-        return WholeAnswer::Refused { number };
+        return WholeReply {
+            number,
+            heard: 0,
+            clamps: 0,
+        };
     }
-    records::matrix::fill(bytes, workspace);
-    let clamps = make_rotations(0, 120, workspace);
-    records::result::write(workspace, buffer);
-    let heard = records::matrix::heard_byte(bytes);
-    WholeAnswer::Factored { heard, clamps }
+    workspace::loading::fill_from_matrix(bytes, workspace);
+    let tally = workspace::rotations::make_rotations(0, schedule::COUNT, workspace);
+    workspace::result::write(workspace, buffer);
+    let heard = matrix_record::heard_byte(bytes);
+    WholeReply {
+        number: 0,
+        heard,
+        clamps: tally.saturations,
+    }
 }

@@ -1,129 +1,55 @@
-// The engine's five calls for C and Rust hosts. Each returns the refusal number, 0 for none, and writes the reply's other fields through
-// references, by the definition that sets out document 01's values for each answer. The words here are document 01's own.
-use engine::fetch::FetchAnswer;
-use engine::load::LoadAnswer;
-use engine::read::ReadAnswer;
-use engine::run::RunAnswer;
-use engine::whole::WholeAnswer;
+// The engine's five calls for C and Rust hosts. Each hands on the engine's reply, whose values are document 01's. The words here are document
+// 01's own.
+use engine::load::LoadReply;
+use engine::read::ReadReply;
+use engine::run::RunReply;
+use engine::whole::WholeReply;
 ghost use mathlib.Core.Path.{_≡_};
-ghost use Rattle.engine.specs.Load.{LoadReply, loadReply, loadOf};
-ghost use Rattle.engine.specs.Run.{RunReply, runReply, runOf};
-ghost use Rattle.engine.specs.Fetch.{fetchReply, fetchOf};
-ghost use Rattle.engine.specs.Read.{ReadReply, readReply, readOf};
-ghost use Rattle.engine.specs.Whole.{WholeReply, wholeReply, wholeOf};
+ghost use Rattle.engine.specs.Load.{LoadOutcome, loadOf};
+ghost use Rattle.engine.specs.Run.{RunOutcome, runOf};
+ghost use Rattle.engine.specs.Fetch.{FetchOutcome, fetchOf};
+ghost use Rattle.engine.specs.Read.{ReadOutcome, readOf};
+ghost use Rattle.engine.specs.Whole.{WholeOutcome, wholeOf};
 
 #[no_mangle]
-pub extern "C" fn hubqr_load(bytes: &[u8], area: &mut [i32], turn: &mut u32, heard: &mut u8) -> u8
-    ensures reply { λ r. ⌜ record { number = r; turn = now (turn .exit); heard = now (heard .exit) } ≡ loadReply (loadOf (now (bytes .entry)) (now (area .entry)) .answer) ⌝ }
-    ensures words { λ r. ⌜ now (area .exit) ≡ loadOf (now (bytes .entry)) (now (area .entry)) .workspace ⌝ }
+pub extern "C" fn hubqr_load(bytes: &[u8], area: &mut [i32]) -> LoadReply
+    ensures { λ r. ⌜ record { reply = r; workspace = now (area .exit) } ≡ loadOf (now (bytes .entry)) (now (area .entry)) ⌝ }
 {
-    let answer = engine::load::load(bytes, area);
-    match answer {
-        LoadAnswer::Loaded {
-            next: first,
-            heard: columns,
-        } => {
-            *turn = first;
-            *heard = columns;
-            0
-        }
-        LoadAnswer::Refused { number } => {
-            *turn = 0;
-            *heard = 0;
-            number
-        }
-    }
+    engine::load::load(bytes, area)
 }
 
 #[no_mangle]
-pub extern "C" fn hubqr_run(
-    turn: u32,
-    allowance: u16,
-    area: &mut [i32],
-    next: &mut u32,
-    made: &mut u32,
-    clamps: &mut u32,
-) -> u8
-    ensures reply { λ r. ⌜ record { number = r; turn = now (next .exit); made = now (made .exit); clamps = now (clamps .exit) } ≡ runReply turn (runOf turn allowance (now (area .entry)) .answer) ⌝ }
-    ensures words { λ r. ⌜ now (area .exit) ≡ runOf turn allowance (now (area .entry)) .workspace ⌝ }
+pub extern "C" fn hubqr_run(turn: u32, allowance: u16, area: &mut [i32]) -> RunReply
+    ensures { λ r. ⌜ record { reply = r; workspace = now (area .exit) } ≡ runOf turn allowance (now (area .entry)) ⌝ }
 {
-    let answer = engine::run::run(turn, allowance, area);
-    match answer {
-        RunAnswer::Made {
-            next: following,
-            made: rotations,
-            clamps: saturations,
-        } => {
-            *next = following;
-            *made = rotations;
-            *clamps = saturations;
-            0
-        }
-        RunAnswer::Refused { number } => {
-            *next = turn;
-            *made = 0;
-            *clamps = 0;
-            number
-        }
-    }
+    engine::run::run(turn, allowance, area)
 }
 
 #[no_mangle]
 pub extern "C" fn hubqr_fetch(turn: u32, area: &[i32], buffer: &mut [u8]) -> u8
-    ensures reply { λ r. ⌜ r ≡ fetchReply (fetchOf turn (now (area .entry)) (now (buffer .entry)) .answer) ⌝ }
-    ensures bytes { λ r. ⌜ now (buffer .exit) ≡ fetchOf turn (now (area .entry)) (now (buffer .entry)) .buffer ⌝ }
+    ensures { λ r. ⌜ record { number = r; buffer = now (buffer .exit) } ≡ fetchOf turn (now (area .entry)) (now (buffer .entry)) ⌝ }
 {
-    let answer = engine::fetch::fetch(turn, area, buffer);
-    match answer {
-        FetchAnswer::Written => 0,
-        FetchAnswer::Refused { number } => number,
-    }
+    engine::fetch::fetch(turn, area, buffer)
 }
 
 #[no_mangle]
-pub extern "C" fn hubqr_read(bytes: &[u8], area: &mut [i32], turn: &mut u32) -> u8
-    ensures reply { λ r. ⌜ record { number = r; turn = now (turn .exit) } ≡ readReply (readOf (now (bytes .entry)) (now (area .entry)) .answer) ⌝ }
-    ensures words { λ r. ⌜ now (area .exit) ≡ readOf (now (bytes .entry)) (now (area .entry)) .workspace ⌝ }
+pub extern "C" fn hubqr_read(bytes: &[u8], area: &mut [i32]) -> ReadReply
+    ensures { λ r. ⌜ record { reply = r; workspace = now (area .exit) } ≡ readOf (now (bytes .entry)) (now (area .entry)) ⌝ }
 {
-    let answer = engine::read::read(bytes, area);
-    match answer {
-        ReadAnswer::Filled { next } => {
-            *turn = next;
-            0
-        }
-        ReadAnswer::Refused { number: refusal } => {
-            *turn = 0;
-            refusal
-        }
-    }
+    engine::read::read(bytes, area)
 }
 
 #[no_mangle]
-pub extern "C" fn hubqr_whole(
-    bytes: &[u8],
-    area: &mut [i32],
-    buffer: &mut [u8],
-    heard: &mut u8,
-    clamps: &mut u32,
-) -> u8
-    ensures reply { λ r. ⌜ record { number = r; heard = now (heard .exit); clamps = now (clamps .exit) } ≡ wholeReply (wholeOf (now (bytes .entry)) (now (area .entry)) (now (buffer .entry)) .answer) ⌝ }
-    ensures words { λ r. ⌜ now (area .exit) ≡ wholeOf (now (bytes .entry)) (now (area .entry)) (now (buffer .entry)) .workspace ⌝ }
-    ensures bytes { λ r. ⌜ now (buffer .exit) ≡ wholeOf (now (bytes .entry)) (now (area .entry)) (now (buffer .entry)) .buffer ⌝ }
+pub extern "C" fn hubqr_whole(bytes: &[u8], area: &mut [i32], buffer: &mut [u8]) -> WholeReply
+    ensures { λ r. ⌜ record { reply = r; workspace = now (area .exit); buffer = now (buffer .exit) } ≡ wholeOf (now (bytes .entry)) (now (area .entry)) (now (buffer .entry)) ⌝ }
 {
-    let answer = engine::whole::whole(bytes, area, buffer);
-    match answer {
-        WholeAnswer::Factored {
-            heard: antennas,
-            clamps: count,
-        } => {
-            *heard = antennas;
-            *clamps = count;
-            0
-        }
-        WholeAnswer::Refused { number } => {
-            *heard = 0;
-            *clamps = 0;
-            number
-        }
-    }
+    engine::whole::whole(bytes, area, buffer)
+}
+
+// The version of this archive, 10,000 times the major, 100 times the minor and the patch number.
+#[no_mangle]
+pub extern "C" fn hubqr_version() -> u32
+    ensures { λ r. ⌜ r ≡ 200 ⌝ }
+{
+    200
 }

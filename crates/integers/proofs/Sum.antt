@@ -10,7 +10,7 @@ use native.Mathlib.Omega.{arith}
 use lib.Dec.{eqb}
 use borrow.Author.Tests.{eq-eqb, ne-eqb}
 use lib.IntN.{ℤ, pos, natAbs, _+ℤ_, _*ℤ_, +ℤ-assoc, +ℤ-comm, +ℤ-idl, +ℤ-idr, *ℤ-zero}
-use Rattle.integers.specs.Sum.{sum}
+use Rattle.integers.specs.Sum.{sum, total}
 use Rattle.integers.proofs.Laws.{swap-right, *ℤ-distl, abs-+}
 
 -- ---- equal terms
@@ -116,15 +116,23 @@ sum-abs zero m f h = omega arith
 sum-abs (suc n) m f h =
     le-trans (abs-+ (sum n f) (f n)) (omega (arith, sum-abs n m f (λ r l. h r (omega arith)), h n (le-refl (suc n))))
 
--- sums of naturals
-pub total : ℕ → (ℕ → ℕ) → ℕ
-total zero g = 0
-total (suc n) g = total n g + g n
+-- ---- sums of naturals
 
 pub sum-total : (n : ℕ) (g : ℕ → ℕ) → sum n (λ r. pos (g r)) ≡ pos (total n g)
 unfolding sum total
 sum-total zero g = refl
 sum-total (suc n) g = ap (λ x. x +ℤ pos (g n)) (sum-total n g)
+
+pub total-zero : (n : ℕ) (g : ℕ → ℕ) → ((r : ℕ) → r < n → g r ≡ 0) → total n g ≡ 0
+unfolding total
+total-zero zero g h = refl
+total-zero (suc n) g h = omega (arith, total-zero n g (λ r l. h r (omega arith)), h n (le-refl (suc n)))
+
+-- n terms of at most m
+pub total-le : (n m : ℕ) (g : ℕ → ℕ) → ((r : ℕ) → g r ≤ m) → total n g ≤ n * m
+unfolding total
+total-le zero m g h = omega arith
+total-le (suc n) m g h = omega (arith, total-le n m g h, h n)
 
 -- a term, and two terms, are at most the total
 pub one-of-total : (n : ℕ) (g : ℕ → ℕ) (u : ℕ) → u < n → g u ≤ total n g

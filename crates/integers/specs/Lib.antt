@@ -1,4 +1,5 @@
--- The words in which bounds and sums over the whole numbers are stated.
+-- The words in which bounds, sums and matrices of whole numbers are stated.
 pub mod Within
 pub mod Sum
 pub mod Square
+pub mod Matrix

@@ -5,7 +5,7 @@ use Prim.Native.Nat.{ℕ, zero, suc, _<_, _≤_}
 use native.Mathlib.Nat.{not-suc-le-zero, le-of-suc-le-suc}
 use native.Mathlib.Omega.{arith}
 use lib.ListN.{length, getD, drop, length-append, length-drop, List·getD-append}
-use lib.Seq.{ext-getD}
+use lib.Seq.{ext-getD, drop-at}
 use Rattle.lists.specs.Lists.{tabulate, filled}
 
 module _ {A : Type 0} where
@@ -37,3 +37,8 @@ module _ {A : Type 0} where
   tabulate-is n f xs d e h =
       ext-getD d (tabulate n f) xs (length-tabulate n f ∙ sym e)
       (λ k l. let b : k < n = subst (λ (m : ℕ). k < m) (length-tabulate n f) l in getD-tabulate n f d k b ∙ h k b)
+
+  -- what stands behind the first n elements is left
+  pub drop-filled : (n : ℕ) (f : ℕ → A) (xs : List A) → drop n (filled n f xs) ≡ drop n xs
+  unfolding filled
+  drop-filled n f xs = drop-at (tabulate n f) (drop n xs) n (length-tabulate n f)

@@ -1,2 +1,3 @@
--- Lists by position, and tests on every number below a bound.
+-- Lists by position, tests on every number below a bound, and lists of calls.
 pub mod Lists
+pub mod Histories

@@ -2,25 +2,25 @@
 -- bytes are its own. Assumes nothing.
 use mathlib.Core.Path.{_≡_, refl}
 use mathlib.Core.List.{List, [], _∷_}
-use Prim.Native.Nat.{ℕ}
+use Prim.Native.Nat.{ℕ, zero, suc}
 use lib.IntN.{pos}
 use lib.ListN.{replicate}
-use Rattle.records.specs.Refusal.{refusalRecord}
+use Rattle.refusals.specs.Refusals.{headerTest, refusalRecord}
+use Rattle.result_record.specs.ResultRecord.{resultBytes}
+use Rattle.workspace.specs.Workspace.{workspaceWords}
 use Rattle.engine.specs.Whole.{wholeRefusal, wholeBy, wholeOf}
-use Rattle.engine.specs.declared.whole.WholeAnswer.{WholeAnswer}
-use Rattle.engine.specs.declared.whole.WholeAnswer.the-variants.{Factored, Refused}
 
--- by Whole's answer: what it left in the buffer, or the refusal record
-abbrev pub written : WholeAnswer → List ℕ → List ℕ
-written (Factored heard clamps) buffer = buffer
-written (Refused number) buffer = refusalRecord number
+-- by Whole's number: what it left in the buffer, or the refusal record
+abbrev pub responseBy : ℕ → List ℕ → List ℕ
+responseBy zero buffer = buffer
+responseBy (suc n) buffer = refusalRecord (suc n)
 
 unfoldable pub response : List ℕ → List ℕ
 response rec =
-    let o = wholeOf rec (replicate 512 (pos 0)) (replicate 2049 0) in
-    written (o .answer) (o .buffer)
+    let o = wholeOf rec (replicate workspaceWords (pos 0)) (replicate resultBytes 0) in
+    responseBy (o .reply .number) (o .buffer)
 
 -- with empty input the whole output is 03 01
 pub empty : response [] ≡ 3 ∷ 1 ∷ []
-unfolding response wholeOf wholeBy wholeRefusal
+unfolding response wholeOf wholeBy wholeRefusal headerTest
 empty = refl

@@ -7,9 +7,9 @@ use Prim.Native.Nat.{ℕ}
 use lib.Dec.{eqb}
 use lib.ListN.{length, getD}
 use Rattle.lists.specs.Lists.{allBelow}
-use Rattle.schedule.specs.Schedule.{stageRotations, survivors, stages, upFrom, columnStages, stagesRotations, columnsRotations, columnsStages, schedule, scheduleStages}
+use Rattle.schedule.specs.Schedule.{rotationCount, stageRotations, survivors, stages, upFrom, columnStages, stagesRotations, columnsRotations, columnsStages, schedule, scheduleStages}
 
-pub rotations-120 : length schedule ≡ 120
+pub rotations-120 : length schedule ≡ rotationCount
 unfolding schedule columnsRotations stagesRotations columnStages stages survivors upFrom stageRotations
 rotations-120 = refl
 

@@ -5,6 +5,10 @@ use mathlib.Core.List.{List, [], _∷_, _++_}
 use lib.ListN.{getD}
 use Rattle.schedule.specs.declared.Rotation.{Rotation}
 
+-- how many rotations there are: `rotations-120` shows it
+abbrev pub rotationCount : ℕ
+rotationCount = 120
+
 -- the rotations of one stage: first with second, third with fourth; an odd last row waits
 unfoldable pub stageRotations : ℕ → List ℕ → List Rotation
 stageRotations j [] = []

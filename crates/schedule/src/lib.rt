@@ -1,7 +1,7 @@
 // The schedule (document 01's tree order): column, upper row and lower row of each of the 120 rotations, and the lookup of one.
 ghost use mathlib.Core.Path.{_≡_};
 ghost use Prim.Native.Nat.{_<_};
-ghost use Rattle.schedule.specs.Schedule.{schedule, flat, rotationAt};
+ghost use Rattle.schedule.specs.Schedule.{rotationCount, schedule, flat, rotationAt};
 
 // A rotation's leading column and its two rows.
 pub struct Rotation {
@@ -10,8 +10,13 @@ pub struct Rotation {
     pub lower: usize,
 }
 
+// How many rotations there are.
+pub const COUNT: usize = 120;
+
 // Rotation n stands at 3 n, 3 n + 1 and 3 n + 2.
-const ROTATIONS: [usize; 360] = [
+pub type Table = [usize; 360];
+
+const ROTATIONS: Table = [
     0,
     0,
     1,
@@ -375,15 +380,15 @@ const ROTATIONS: [usize; 360] = [
 ];
 
 // The table. Whoever looks up many rotations takes it once, since a constant is laid out anew wherever it is read.
-pub fn table() -> [usize; 360]
+pub fn table() -> Table
     ensures { λ r. ⌜ r ≡ flat schedule ⌝ }
 {
     ROTATIONS
 }
 
 // Rotation number n of the table.
-pub fn rotation_at(table: &[usize; 360], n: usize) -> Rotation
-    requires { ⌜ (now table ≡ flat schedule) × (n < 120) ⌝ }
+pub fn rotation_at(table: &Table, n: usize) -> Rotation
+    requires { ⌜ (now table ≡ flat schedule) × (n < rotationCount) ⌝ }
     ensures { λ r. ⌜ r ≡ rotationAt n ⌝ }
 {
     let at = 3 * n;

@@ -75,12 +75,12 @@ fn work(mut turn: u32, area: &mut [i32], output: &mut impl Write) -> Result<u32,
     let mut rounds = 0;
     while turn < TURNS {
         let progress = hubqr::run(turn, INSTALMENT, area)?;
-        turn = progress.next;
+        turn = progress.turn;
         other_work(&mut rounds);
         writeln!(
             output,
-            "turn {turn:3} of {TURNS}, made {}, clamps {}, rounds of other work {rounds}",
-            progress.made, progress.clamps
+            "turn {turn:3} of {TURNS}, count {}, clamps {}, rounds of other work {rounds}",
+            progress.count, progress.clamps
         )
         .map_err(Failure::Output)?;
     }

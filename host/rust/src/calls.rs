@@ -1,13 +1,14 @@
 //! The five calls with slices in and a `Result` out.
 //!
 //! Each `unsafe` block rests on the same facts: a slice's pointer and length describe memory that may
-//! be read, or written where it is `&mut`; Rust's borrows and locals do not overlap; and the archive
-//! touches nothing else and keeps no pointer.
+//! be read, or written where it is `&mut`; Rust's borrows do not overlap; and the archive touches
+//! nothing else and keeps no pointer.
 use crate::ffi;
 use crate::refusal::Refusal;
 
 /// What an accepted [`load`] answers.
 #[derive(Clone, Copy, Debug, PartialEq, Eq)]
+#[non_exhaustive]
 pub struct Loaded {
     /// The turn number to hand to the next call: 0.
     pub turn: u32,
@@ -17,17 +18,27 @@ pub struct Loaded {
 
 /// What an accepted [`run`] answers.
 #[derive(Clone, Copy, Debug, PartialEq, Eq)]
+#[non_exhaustive]
 pub struct Progress {
     /// The turn number to hand to the next call.
-    pub next: u32,
+    pub turn: u32,
     /// The turns made in this call.
-    pub made: u32,
+    pub count: u32,
     /// The words cut to the 32-bit range in this call: 0 for an area that [`load`] filled.
     pub clamps: u32,
 }
 
+/// What an accepted [`read`] answers.
+#[derive(Clone, Copy, Debug, PartialEq, Eq)]
+#[non_exhaustive]
+pub struct Restored {
+    /// The turn number to hand to the next call: 120.
+    pub turn: u32,
+}
+
 /// What an accepted [`whole`] answers.
 #[derive(Clone, Copy, Debug, PartialEq, Eq)]
+#[non_exhaustive]
 pub struct Factored {
     /// Bit k is set when column k of the complex matrix has an element other than zero.
     pub heard: u8,
@@ -53,19 +64,14 @@ pub struct Factored {
 /// # Ok::<(), hubqr::Refusal>(())
 /// ```
 pub fn load(record: &[u8], area: &mut [i32]) -> Result<Loaded, Refusal> {
-    let (mut turn, mut heard) = (0, 0);
     // SAFETY: as said at the top of this file.
-    let number = unsafe {
-        ffi::hubqr_load(
-            record.as_ptr(),
-            record.len(),
-            area.as_mut_ptr(),
-            area.len(),
-            &mut turn,
-            &mut heard,
-        )
-    };
-    accepted(number).map(|()| Loaded { turn, heard })
+    let reply =
+        unsafe { ffi::hubqr_load(record.as_ptr(), record.len(), area.as_mut_ptr(), area.len()) };
+    accepted(reply.number)?;
+    Ok(Loaded {
+        turn: reply.turn,
+        heard: reply.heard,
+    })
 }
 
 /// Makes the smaller of `allowance` and the turns that remain, from turn number `turn` on. An
@@ -78,26 +84,20 @@ pub fn load(record: &[u8], area: &mut [i32]) -> Result<Loaded, Refusal> {
 /// # let mut area = [0; hubqr::AREA_WORDS];
 /// let turn = hubqr::load(&record, &mut area)?.turn;
 /// let progress = hubqr::run(turn, 100, &mut area)?;
-/// assert_eq!((progress.next, progress.made, progress.clamps), (100, 100, 0));
-/// let progress = hubqr::run(progress.next, 100, &mut area)?;
-/// assert_eq!((progress.next, progress.made, progress.clamps), (120, 20, 0));
+/// assert_eq!((progress.turn, progress.count, progress.clamps), (100, 100, 0));
+/// let progress = hubqr::run(progress.turn, 100, &mut area)?;
+/// assert_eq!((progress.turn, progress.count, progress.clamps), (120, 20, 0));
 /// # Ok::<(), hubqr::Refusal>(())
 /// ```
 pub fn run(turn: u32, allowance: u16, area: &mut [i32]) -> Result<Progress, Refusal> {
-    let (mut next, mut made, mut clamps) = (0, 0, 0);
     // SAFETY: as said at the top of this file.
-    let number = unsafe {
-        ffi::hubqr_run(
-            turn,
-            allowance,
-            area.as_mut_ptr(),
-            area.len(),
-            &mut next,
-            &mut made,
-            &mut clamps,
-        )
-    };
-    accepted(number).map(|()| Progress { next, made, clamps })
+    let reply = unsafe { ffi::hubqr_run(turn, allowance, area.as_mut_ptr(), area.len()) };
+    accepted(reply.number)?;
+    Ok(Progress {
+        turn: reply.turn,
+        count: reply.count,
+        clamps: reply.clamps,
+    })
 }
 
 /// Writes the result record into the first 2,049 bytes of the buffer.
@@ -114,7 +114,7 @@ pub fn run(turn: u32, allowance: u16, area: &mut [i32]) -> Result<Progress, Refu
 /// let early = hubqr::fetch(turn, &area, &mut result);
 /// assert_eq!(early, Err(hubqr::Refusal::Unfinished));
 ///
-/// let turn = hubqr::run(turn, 120, &mut area)?.next;
+/// let turn = hubqr::run(turn, 120, &mut area)?.turn;
 /// hubqr::fetch(turn, &area, &mut result)?;
 /// assert_eq!(result[0], hubqr::KIND_RESULT);
 /// # Ok::<(), hubqr::Refusal>(())
@@ -133,8 +133,8 @@ pub fn fetch(turn: u32, area: &[i32], buffer: &mut [u8]) -> Result<(), Refusal> 
     accepted(number)
 }
 
-/// Fills the area's 512 words from a result record and answers its turn number, 120. A [`fetch`] from
-/// that area writes the same record again.
+/// Fills the area's 512 words from a result record. A [`fetch`] from that area writes the same
+/// record again.
 ///
 /// Refuses, in this order, with [`Refusal::WrongKind`], [`Refusal::WrongLength`],
 /// [`Refusal::AreaTooShort`], [`Refusal::NotTriangular`].
@@ -145,23 +145,16 @@ pub fn fetch(turn: u32, area: &[i32], buffer: &mut [u8]) -> Result<(), Refusal> 
 /// # let mut result = [0; hubqr::RESULT_RECORD_BYTES];
 /// # hubqr::whole(&matrix, &mut area, &mut result)?;
 /// let mut other = [0; hubqr::AREA_WORDS];
-/// assert_eq!(hubqr::read(&result, &mut other), Ok(hubqr::TURNS));
+/// assert_eq!(hubqr::read(&result, &mut other)?.turn, hubqr::TURNS);
 /// assert_eq!(other, area);
 /// # Ok::<(), hubqr::Refusal>(())
 /// ```
-pub fn read(record: &[u8], area: &mut [i32]) -> Result<u32, Refusal> {
-    let mut turn = 0;
+pub fn read(record: &[u8], area: &mut [i32]) -> Result<Restored, Refusal> {
     // SAFETY: as said at the top of this file.
-    let number = unsafe {
-        ffi::hubqr_read(
-            record.as_ptr(),
-            record.len(),
-            area.as_mut_ptr(),
-            area.len(),
-            &mut turn,
-        )
-    };
-    accepted(number).map(|()| turn)
+    let reply =
+        unsafe { ffi::hubqr_read(record.as_ptr(), record.len(), area.as_mut_ptr(), area.len()) };
+    accepted(reply.number)?;
+    Ok(Restored { turn: reply.turn })
 }
 
 /// Does [`load`], all turns and [`fetch`] in one call. R and Q are left in the area as well.
@@ -173,14 +166,13 @@ pub fn read(record: &[u8], area: &mut [i32]) -> Result<u32, Refusal> {
 /// let mut area = [0; hubqr::AREA_WORDS];
 /// let mut result = [0; hubqr::RESULT_RECORD_BYTES];
 /// let record = [1; hubqr::MATRIX_RECORD_BYTES]; // kind byte 1, each part 257
-/// let answer = hubqr::whole(&record, &mut area, &mut result)?;
-/// assert_eq!((answer.heard, answer.clamps), (0xff, 0));
+/// let factored = hubqr::whole(&record, &mut area, &mut result)?;
+/// assert_eq!((factored.heard, factored.clamps), (0xff, 0));
 /// # Ok::<(), hubqr::Refusal>(())
 /// ```
 pub fn whole(record: &[u8], area: &mut [i32], buffer: &mut [u8]) -> Result<Factored, Refusal> {
-    let (mut heard, mut clamps) = (0, 0);
     // SAFETY: as said at the top of this file.
-    let number = unsafe {
+    let reply = unsafe {
         ffi::hubqr_whole(
             record.as_ptr(),
             record.len(),
@@ -188,16 +180,24 @@ pub fn whole(record: &[u8], area: &mut [i32], buffer: &mut [u8]) -> Result<Facto
             area.len(),
             buffer.as_mut_ptr(),
             buffer.len(),
-            &mut heard,
-            &mut clamps,
         )
     };
-    accepted(number).map(|()| Factored { heard, clamps })
+    accepted(reply.number)?;
+    Ok(Factored {
+        heard: reply.heard,
+        clamps: reply.clamps,
+    })
 }
 
-/// The outcome that a returned number stands for. The contracts give 0 to 8 only, so
-/// another number means that it is not the archive these declarations were written for: nothing it
-/// left in the lent memory could be trusted.
+/// The version of the archive that this program was linked with. It has to be [`crate::VERSION`].
+pub fn version() -> u32 {
+    // SAFETY: the call takes nothing.
+    unsafe { ffi::hubqr_version() }
+}
+
+/// The outcome that a reply's number stands for. The contracts give 0 and the numbers of refusals
+/// only, so another one means that it is not the archive these declarations were written for:
+/// nothing it left in the lent memory could be trusted.
 fn accepted(number: u8) -> Result<(), Refusal> {
     if number == 0 {
         return Ok(());
@@ -213,16 +213,16 @@ mod tests {
     use super::*;
 
     #[test]
-    fn returned_numbers_become_outcomes() {
+    fn answered_numbers_become_outcomes() {
         assert_eq!(accepted(0), Ok(()));
-        for refusal in Refusal::ALL {
+        for &refusal in Refusal::ALL {
             assert_eq!(accepted(refusal.number()), Err(refusal));
         }
     }
 
     #[test]
-    #[should_panic(expected = "libhubqr.a does not fit this crate: 9 is no refusal number")]
+    #[should_panic(expected = "libhubqr.a does not fit this crate: 255 is no refusal number")]
     fn an_unknown_number_panics() {
-        let _ = accepted(9);
+        let _ = accepted(255);
     }
 }

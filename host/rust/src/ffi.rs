@@ -1,31 +1,75 @@
-//! The five calls as `libhubqr.a` exports them. Nothing checks these lines against the archive but
-//! the tests: they say what `include/hubqr.h` says, which has the rules of each call. A pointer that
-//! comes with a length may be null only where that length is 0, the others never; no two arguments
-//! may overlap.
+//! What `libhubqr.a` exports, declared as `include/hubqr.h` declares it, which has the rules of each
+//! call. `tools/check-face.sh` compares these lines with the header, with the archive's symbols and
+//! with the sources that the archive is made of.
+//!
+//! A pointer may be null only where its length is 0, and the record, the area and the buffer of a
+//! call may not overlap. In every reply `number` is 0 for an accepted call, and the refusal's number
+//! otherwise.
+
+/// What Load answers.
+#[repr(C)]
+#[derive(Clone, Copy, Debug, PartialEq, Eq)]
+pub struct LoadReply {
+    /// 0, or the refusal's number.
+    pub number: u8,
+    /// The heard byte.
+    pub heard: u8,
+    /// The turn number to hand to the next call: 0.
+    pub turn: u32,
+}
+
+/// What Run answers.
+#[repr(C)]
+#[derive(Clone, Copy, Debug, PartialEq, Eq)]
+pub struct RunReply {
+    /// 0, or the refusal's number.
+    pub number: u8,
+    /// The turn number to hand to the next call; of a refused call, the one that it was handed.
+    pub turn: u32,
+    /// The turns made in this call.
+    pub count: u32,
+    /// The clamps counted in this call.
+    pub clamps: u32,
+}
+
+/// What Read answers.
+#[repr(C)]
+#[derive(Clone, Copy, Debug, PartialEq, Eq)]
+pub struct ReadReply {
+    /// 0, or the refusal's number.
+    pub number: u8,
+    /// The turn number to hand to the next call: 120.
+    pub turn: u32,
+}
+
+/// What Whole answers.
+#[repr(C)]
+#[derive(Clone, Copy, Debug, PartialEq, Eq)]
+pub struct WholeReply {
+    /// 0, or the refusal's number.
+    pub number: u8,
+    /// The heard byte.
+    pub heard: u8,
+    /// The clamps counted: 0.
+    pub clamps: u32,
+}
 
 extern "C" {
+    /// The archive's version: 10000 * major + 100 * minor + patch.
+    pub fn hubqr_version() -> u32;
+
     /// Fills the area from a matrix record.
     pub fn hubqr_load(
         record: *const u8,
         record_len: usize,
         area: *mut i32,
         area_len: usize,
-        turn: *mut u32,
-        heard: *mut u8,
-    ) -> u8;
+    ) -> LoadReply;
 
     /// Makes at most `allowance` of the turns that remain.
-    pub fn hubqr_run(
-        turn: u32,
-        allowance: u16,
-        area: *mut i32,
-        area_len: usize,
-        next: *mut u32,
-        made: *mut u32,
-        clamps: *mut u32,
-    ) -> u8;
+    pub fn hubqr_run(turn: u32, allowance: u16, area: *mut i32, area_len: usize) -> RunReply;
 
-    /// Writes the result record of a finished area.
+    /// Writes the result record of a finished area, and answers the number alone.
     pub fn hubqr_fetch(
         turn: u32,
         area: *const i32,
@@ -40,8 +84,7 @@ extern "C" {
         record_len: usize,
         area: *mut i32,
         area_len: usize,
-        turn: *mut u32,
-    ) -> u8;
+    ) -> ReadReply;
 
     /// Load, all turns and Fetch in one call.
     pub fn hubqr_whole(
@@ -51,7 +94,5 @@ extern "C" {
         area_len: usize,
         buffer: *mut u8,
         buffer_len: usize,
-        heard: *mut u8,
-        clamps: *mut u32,
-    ) -> u8;
+    ) -> WholeReply;
 }

@@ -29,8 +29,8 @@
 //!
 //! let mut area = [0; hubqr::AREA_WORDS];
 //! let mut result = [0; hubqr::RESULT_RECORD_BYTES];
-//! let answer = hubqr::whole(&record, &mut area, &mut result)?;
-//! assert_eq!(answer.heard, 0b0000_0001); // antenna 0 and no other
+//! let factored = hubqr::whole(&record, &mut area, &mut result)?;
+//! assert_eq!(factored.heard, 0b0000_0001); // antenna 0 and no other
 //! assert_eq!(result[0], hubqr::KIND_RESULT);
 //!
 //! let half = f64::from(area[0]) / f64::from(hubqr::R_ONE);
@@ -45,7 +45,7 @@
 //! let mut area = [0; hubqr::AREA_WORDS];
 //! let mut turn = hubqr::load(&record, &mut area)?.turn;
 //! while turn < hubqr::TURNS {
-//!     turn = hubqr::run(turn, 7, &mut area)?.next;
+//!     turn = hubqr::run(turn, 7, &mut area)?.turn;
 //!     // other work goes here
 //! }
 //! let mut result = [0; hubqr::RESULT_RECORD_BYTES];
@@ -55,12 +55,34 @@
 #![no_std]
 #![warn(missing_docs)]
 
+#[cfg(feature = "archive")]
 mod calls;
+#[cfg(feature = "archive")]
 pub mod ffi;
 mod refusal;
 
-pub use calls::{fetch, load, read, run, whole, Factored, Loaded, Progress};
+#[cfg(feature = "archive")]
+pub use calls::{fetch, load, read, run, version, whole};
+#[cfg(feature = "archive")]
+pub use calls::{Factored, Loaded, Progress, Restored};
 pub use refusal::{Refusal, UnknownNumber};
+
+/// The version of this crate as a number, 10000 * major + 100 * minor + patch. The archive answers
+/// its own in [`version`].
+///
+/// ```
+/// assert_eq!(hubqr::version(), hubqr::VERSION);
+/// ```
+pub const VERSION: u32 = 10_000 * decimal(env!("CARGO_PKG_VERSION_MAJOR"))
+    + 100 * decimal(env!("CARGO_PKG_VERSION_MINOR"))
+    + decimal(env!("CARGO_PKG_VERSION_PATCH"));
+
+const fn decimal(digits: &str) -> u32 {
+    match u32::from_str_radix(digits, 10) {
+        Ok(number) => number,
+        Err(_) => panic!("cargo hands the parts of a version over as decimal digits"),
+    }
+}
 
 /// Bytes of a matrix record.
 pub const MATRIX_RECORD_BYTES: usize = 257;

@@ -1,7 +1,7 @@
 //! Writes what a program of the product has to write, to standard output.
 //!
 //! ```text
-//! expected cases         what `cases` writes for the script that it is run on
+//! expected cases         what `cases` writes
 //! expected whole FILE    what `qr` writes for the input in FILE
 //! ```
 
@@ -12,7 +12,7 @@ use std::io::{self, Write};
 use std::path::Path;
 use std::process::ExitCode;
 
-use reference::listing::{listing, SCRIPT};
+use reference::listing::listing;
 use reference::program::respond;
 
 const USAGE: &str = "usage: expected cases | expected whole FILE";
@@ -34,7 +34,7 @@ fn main() -> ExitCode {
 fn expected() -> Result<Vec<u8>, String> {
     let words: Vec<OsString> = env::args_os().skip(1).collect();
     match words.as_slice() {
-        [word] if word == "cases" => Ok(listing(SCRIPT).into_bytes()),
+        [word] if word == "cases" => Ok(listing().into_bytes()),
         [word, file] if word == "whole" => match fs::read(file) {
             Ok(record) => Ok(respond(&record)),
             Err(error) => Err(format!("{}: {error}", Path::new(file).display())),

@@ -1,20 +1,20 @@
-//! Digests of memory: the elements are the digits of a number in base 1000003, which is taken
-//! modulo a prime above 2^32.
+//! Digests of memory: its bytes are the digits of a number in base 1000003, and before each digit
+//! the number is taken modulo a prime.
 
 const BASE: u64 = 1_000_003;
 const MODULUS: u64 = 1_099_511_627_689;
 
+/// A word counts as its four bytes, high byte first.
 pub fn of_words(words: &[i32]) -> u64 {
-    // A word counts by its distance from the lowest one.
-    digest(words.iter().map(|word| u64::from(word.abs_diff(i32::MIN))))
+    digest(words.iter().flat_map(|word| word.to_be_bytes()))
 }
 
 pub fn of_bytes(bytes: &[u8]) -> u64 {
-    digest(bytes.iter().map(|&byte| u64::from(byte)))
+    digest(bytes.iter().copied())
 }
 
-fn digest(elements: impl Iterator<Item = u64>) -> u64 {
-    elements.fold(1, |digest, element| (digest * BASE + element) % MODULUS)
+fn digest(bytes: impl Iterator<Item = u8>) -> u64 {
+    bytes.fold(1, |digest, byte| digest % MODULUS * BASE + u64::from(byte))
 }
 
 #[cfg(test)]

@@ -1,58 +1,39 @@
-//! The engine's five calls with owned replies.
+//! The engine's five calls, with what they answer as the reference's replies.
 //!
 //! What the engine only reads is lent as writable, too, so that a forbidden write would be seen.
-//! The places for the replies hold odd values before each call: the engine has to write them all.
 
 use hubqr::ffi;
 use reference::replies::{FetchReply, LoadReply, ReadReply, RunReply, WholeReply};
 
-const UNWRITTEN: u32 = 0xA5A5_A5A5;
-const UNWRITTEN_BYTE: u8 = 0xA5;
+// SAFETY of all calls: the pointers and lengths come from live slices that do not overlap.
 
 pub fn load(record: &mut [u8], area: &mut [i32]) -> LoadReply {
-    let (mut turn, mut heard) = (UNWRITTEN, UNWRITTEN_BYTE);
-    // SAFETY: all pointers come from live references that do not overlap.
-    let number = unsafe {
+    let reply = unsafe {
         ffi::hubqr_load(
             record.as_mut_ptr(),
             record.len(),
             area.as_mut_ptr(),
             area.len(),
-            &mut turn,
-            &mut heard,
         )
     };
     LoadReply {
-        number,
-        turn,
-        heard,
+        number: reply.number,
+        turn: reply.turn,
+        heard: reply.heard,
     }
 }
 
 pub fn run(turn: u32, allowance: u16, area: &mut [i32]) -> RunReply {
-    let (mut next, mut made, mut clamps) = (UNWRITTEN, UNWRITTEN, UNWRITTEN);
-    // SAFETY: all pointers come from live references that do not overlap.
-    let number = unsafe {
-        ffi::hubqr_run(
-            turn,
-            allowance,
-            area.as_mut_ptr(),
-            area.len(),
-            &mut next,
-            &mut made,
-            &mut clamps,
-        )
-    };
+    let reply = unsafe { ffi::hubqr_run(turn, allowance, area.as_mut_ptr(), area.len()) };
     RunReply {
-        number,
-        next,
-        made,
-        clamps,
+        number: reply.number,
+        turn: reply.turn,
+        count: reply.count,
+        clamps: reply.clamps,
     }
 }
 
 pub fn fetch(turn: u32, area: &mut [i32], buffer: &mut [u8]) -> FetchReply {
-    // SAFETY: all pointers come from live references that do not overlap.
     let number = unsafe {
         ffi::hubqr_fetch(
             turn,
@@ -66,24 +47,22 @@ pub fn fetch(turn: u32, area: &mut [i32], buffer: &mut [u8]) -> FetchReply {
 }
 
 pub fn read(record: &mut [u8], area: &mut [i32]) -> ReadReply {
-    let mut turn = UNWRITTEN;
-    // SAFETY: all pointers come from live references that do not overlap.
-    let number = unsafe {
+    let reply = unsafe {
         ffi::hubqr_read(
             record.as_mut_ptr(),
             record.len(),
             area.as_mut_ptr(),
             area.len(),
-            &mut turn,
         )
     };
-    ReadReply { number, turn }
+    ReadReply {
+        number: reply.number,
+        turn: reply.turn,
+    }
 }
 
 pub fn whole(record: &mut [u8], area: &mut [i32], buffer: &mut [u8]) -> WholeReply {
-    let (mut heard, mut clamps) = (UNWRITTEN_BYTE, UNWRITTEN);
-    // SAFETY: all pointers come from live references that do not overlap.
-    let number = unsafe {
+    let reply = unsafe {
         ffi::hubqr_whole(
             record.as_mut_ptr(),
             record.len(),
@@ -91,13 +70,11 @@ pub fn whole(record: &mut [u8], area: &mut [i32], buffer: &mut [u8]) -> WholeRep
             area.len(),
             buffer.as_mut_ptr(),
             buffer.len(),
-            &mut heard,
-            &mut clamps,
         )
     };
     WholeReply {
-        number,
-        heard,
-        clamps,
+        number: reply.number,
+        heard: reply.heard,
+        clamps: reply.clamps,
     }
 }

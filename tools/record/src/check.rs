@@ -1,6 +1,8 @@
 //! `record check`: the errors of a result against their limits, in exact whole numbers.
 use std::ffi::OsStr;
 
+use hubqr::Refusal;
+
 use crate::factors::{places, Factors, SIZE};
 use crate::failure::Failure;
 use crate::matrix::Matrix;
@@ -22,7 +24,8 @@ pub fn check(matrix: &OsStr, result: &OsStr) -> Result<Report, Failure> {
     };
     let matrix = match Record::read(matrix)? {
         Record::Matrix(found) if found.is_zero() => {
-            let message = format!("{}: {}", files::shown(matrix), refused_with(4));
+            let why = refused_with(Refusal::AllZero);
+            let message = format!("{}: {why}", files::shown(matrix));
             return Err(Failure::Input(message));
         }
         Record::Matrix(found) => found,

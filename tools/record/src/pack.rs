@@ -2,6 +2,8 @@
 use std::ffi::OsStr;
 use std::fmt::Display;
 
+use hubqr::Refusal;
+
 use crate::failure::Failure;
 use crate::matrix::Matrix;
 use crate::refusal::refused_with;
@@ -23,7 +25,7 @@ pub fn pack(input: &OsStr, output: &OsStr) -> Result<Report, Failure> {
         Report::new(confirmation(output, &matrix), true)
     };
     if matrix.is_zero() {
-        report.remark = Some(refused_with(4));
+        report.remark = Some(refused_with(Refusal::AllZero));
     }
     Ok(report)
 }

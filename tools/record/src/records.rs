@@ -1,6 +1,8 @@
 //! Which record a file holds.
 use std::ffi::OsStr;
 
+use hubqr::Refusal;
+
 use crate::factors::{self, Factors};
 use crate::failure::Failure;
 use crate::files;
@@ -26,7 +28,7 @@ impl Record {
 
     fn from_bytes(bytes: &[u8]) -> Result<Record, String> {
         match bytes.first() {
-            None => Err(format!("empty: {}", refused_with(1))),
+            None => Err(format!("empty: {}", refused_with(Refusal::WrongKind))),
             Some(&matrix::KIND) => match bytes.try_into() {
                 Ok(record) => Ok(Record::Matrix(Box::new(Matrix::from_record(record)))),
                 Err(_) => Err(wrong_length(bytes, "a matrix", matrix::BYTES)),
@@ -42,7 +44,7 @@ impl Record {
             Some(kind) => Err(format!(
                 "the kind byte is {kind:02X}; records begin with 01 (matrix), 02 (result) or \
                  03 (refusal): {}",
-                refused_with(1)
+                refused_with(Refusal::WrongKind)
             )),
         }
     }
@@ -58,7 +60,8 @@ impl Record {
 }
 
 fn wrong_length(bytes: &[u8], kind: &str, expected: usize) -> String {
-    format!("{}: {}", has_length(bytes, kind, expected), refused_with(2))
+    let why = refused_with(Refusal::WrongLength);
+    format!("{}: {why}", has_length(bytes, kind, expected))
 }
 
 fn has_length(bytes: &[u8], kind: &str, expected: usize) -> String {

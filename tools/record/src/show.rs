@@ -1,11 +1,13 @@
 //! `record show`: a record for people.
 use std::ffi::OsStr;
 
+use hubqr::Refusal;
+
 use crate::factors::{Factors, Words, SIZE};
 use crate::failure::Failure;
 use crate::matrix::{Element, Matrix};
 use crate::records::Record;
-use crate::refusal::{meaning, refused_with};
+use crate::refusal::refused_with;
 use crate::{files, Report};
 
 pub fn show(file: &OsStr) -> Result<Report, Failure> {
@@ -15,12 +17,12 @@ pub fn show(file: &OsStr) -> Result<Report, Failure> {
             let in_order = factors.rule_breaks().first().is_none();
             Ok(Report::new(result_text(&factors), in_order))
         }
-        Record::Refusal(number) => match meaning(number) {
-            Some(meaning) => {
-                let text = format!("refusal record, number {number}: {meaning}\n");
+        Record::Refusal(number) => match Refusal::try_from(number) {
+            Ok(refusal) => {
+                let text = format!("refusal record, number {number}: {refusal}\n");
                 Ok(Report::new(text, true))
             }
-            None => {
+            Err(_) => {
                 let file = files::shown(file);
                 let message = format!("{file}: a refusal record of number {number}, which is none");
                 Err(Failure::Input(message))
@@ -51,7 +53,7 @@ fn matrix_text(matrix: &Matrix) -> String {
         antennas(matrix.heard())
     );
     if matrix.is_zero() {
-        text += &format!("# {}\n", refused_with(4));
+        text += &format!("# {}\n", refused_with(Refusal::AllZero));
     }
     for (i, row) in matrix.rows.iter().enumerate() {
         let elements = row.map(element_text).concat();
@@ -70,7 +72,8 @@ fn result_text(factors: &Factors) -> String {
         None => "R is upper triangular and its first 15 diagonal words are not negative".into(),
         Some((i, j)) => {
             let word = factors.r[i][j];
-            format!("word ({i}, {j}) of R is {word}: {}", refused_with(8))
+            let why = refused_with(Refusal::NotTriangular);
+            format!("word ({i}, {j}) of R is {word}: {why}")
         }
     };
     let r = words_text(&factors.r, 13, 2);

@@ -1,8 +1,9 @@
--- `rotate` meets its contract: where the test holds the 32-bit form does the work, and else the 64-bit form. Assumes nothing.
+-- `rotate` meets its contract: where the test holds the 32-bit form does the work and nothing is counted, and else the 64-bit form. Assumes nothing.
 use native.Mathlib.Omega.{arith}
 use mathlib.Core.Path.{refl, sym, _∙_}
+use denote.Ref.{now}
 use borrow.Author.Needs.{needs}
-use Rattle.givens.specs.Rotation.{rotated}
+use Rattle.narrow.proofs.Norms.{bounded-tally}
 use Rattle.givens.proofs.rotate.Statement.{statement}
 use Rattle.givens.proofs.rotate.Tie as tie
 
@@ -21,14 +22,20 @@ slice-aggregate-rotate-in-2 c = search needs
 rotate-in-requires : tie.Need-rotate-in-requires
 rotate-in-requires c κs =
     let t = c .before .before .before in
-    ((omega arith, t .before .before .before .pre .1, refl, refl), sym (t .before .norms-bounded .ensures) ∙ t .if1 .taken)
+    let p = t .before .before .before .pre in
+    ((omega arith, p .1, p .2, refl, refl), sym (t .before .norms-bounded .ensures) ∙ t .if1 .taken)
+
+none-requires : tie.Need-none-requires
+none-requires c κs = search needs
 
 same-length : tie.Need-same-length
 same-length c = search needs
 
 returns : tie.Need-returns
-unfolding rotated
-returns c = c .before .before .before .rotate-in .ensures
+returns c =
+    let t = c .before .before .before .before .before .before .before .before in
+    let a = t .before .before .before .args in
+    (c .before .before .before .before .rotate-in .ensures, c .none .ensures ∙ sym (bounded-tally (a .column) (a .gap) (now (a .part)) (sym (t .before .norms-bounded .ensures) ∙ t .if1 .taken)))
 
 slice-aggregate-rotate-in-3 : tie.Need-slice-aggregate-rotate-in-3
 slice-aggregate-rotate-in-3 c = search needs
@@ -54,6 +61,7 @@ rotate-spec =
     slice-aggregate-rotate-in
     slice-aggregate-rotate-in-2
     rotate-in-requires
+    none-requires
     same-length
     returns
     slice-aggregate-rotate-in-3

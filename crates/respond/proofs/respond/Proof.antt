@@ -11,13 +11,12 @@ use lib.ListN.{length, drop, set, replicate, length-set, drop-of-length-le}
 use denote.Ref.{now}
 use Rattle.lists.specs.Lists.{tabulate, filled}
 use Rattle.lists.proofs.Tabulate.{length-tabulate}
-use Rattle.records.specs.Matrix.{loadedWords}
-use Rattle.records.specs.Result.{R, Q, resultByte}
-use Rattle.records.specs.Refusal.{refusalRecord}
-use Rattle.engine.specs.Rotations.{rotationsMade}
+use Rattle.result_record.specs.ResultRecord.{resultByte}
+use Rattle.workspace.specs.Workspace.{R, Q}
+use Rattle.workspace.specs.Loading.{loadedWords}
+use Rattle.workspace.specs.Rotations.{rotationsMade}
 use Rattle.engine.specs.Whole.{WholeOutcome, wholeRefusal, wholeDone, wholeBy, wholeOf}
-use Rattle.engine.specs.declared.whole.WholeAnswer.the-variants.{Factored, Refused}
-use Rattle.respond.specs.Response.{written, response}
+use Rattle.respond.specs.Response.{responseBy, response}
 use Rattle.respond.proofs.respond.Statement.{statement}
 use Rattle.respond.proofs.respond.Tie as tie
 
@@ -44,7 +43,7 @@ two-fit l x y e = omega (arith, length-set (set l 0 x) 1 y, length-set l 0 x)
 module _ (rec out : List ℕ) (size : length out ≡ 2049) where
   -- by the number, what the response is
   abbrev answered : ℕ → List ℕ
-  answered number = let o = wholeBy number rec zeros blank in written (o .answer) (o .buffer)
+  answered number = let o = wholeBy number rec zeros blank in responseBy (o .reply .number) (o .buffer)
 
   response-is : response rec ≡ answered (wholeRefusal rec zeros out)
   unfolding response wholeOf
@@ -55,45 +54,29 @@ module _ (rec out : List ℕ) (size : length out ≡ 2049) where
   unfolding filled
   filled-whole f b e = rw (drop-of-length-le b {i = 2049} (omega arith)) (append-nil (tabulate 2049 f))
 
-  accepted : (number : ℕ) (o : WholeOutcome) (heard clamps : ℕ) → o ≡ wholeBy number rec zeros out → o .answer ≡ Factored heard clamps
+  accepted : (number : ℕ) (o : WholeOutcome) → o ≡ wholeBy number rec zeros out → o .reply .number ≡ 0
       → (2049 ≡ length (answered number)) × (o .buffer ≡ answered number ++ drop 2049 out)
   unfolding wholeBy wholeDone
-  accepted zero o heard clamps e a =
-      let f : ℕ → ℕ = resultByte (R (rotationsMade 0 120 (loadedWords rec zeros) .words)) (Q (rotationsMade 0 120 (loadedWords rec zeros) .words)) in
+  accepted zero o e a =
+      let words : List ℤ = rotationsMade 0 120 (loadedWords rec zeros) in
+      let f : ℕ → ℕ = resultByte (R words) (Q words) in
       let b : filled 2049 f blank ≡ tabulate 2049 f = filled-whole f blank refl in
       let n : length (filled 2049 f blank) ≡ 2049 = ap length b ∙ length-tabulate 2049 f in
       let d : drop 2049 out ≡ [] = drop-of-length-le out {i = 2049} (omega arith) in
       (sym n, ap (λ (x : WholeOutcome). x .buffer) e ∙ filled-whole f out size ∙ sym (rw (d, append-nil) b))
-  accepted (suc n) o heard clamps e a = absurd (clash (sym a ∙ ap (λ (x : WholeOutcome). x .answer) e))
-    where
-      clash : Factored heard clamps ≡ Refused (suc n) → ⊥
-      clash q = let z : _≡_ {A = ℕ} 0 1 = cc in omega arith
+  accepted (suc n) o e a = absurd (omega (arith, a, ap (λ (x : WholeOutcome). x .reply .number) e))
 
-  refused : (number : ℕ) (o : WholeOutcome) (n : ℕ) → o ≡ wholeBy number rec zeros out → o .answer ≡ Refused n
-      → (2 ≡ length (answered number)) × (set (set (o .buffer) 0 3) 1 n ≡ answered number ++ drop 2 out)
+  refused : (number : ℕ) (o : WholeOutcome) → o ≡ wholeBy number rec zeros out → (o .reply .number ≡ 0 → ⊥)
+      → (2 ≡ length (answered number)) × (set (set (o .buffer) 0 3) 1 (o .reply .number) ≡ answered number ++ drop 2 out)
   unfolding wholeBy wholeDone
-  refused zero o n e a = absurd (clash (sym a ∙ ap (λ (x : WholeOutcome). x .answer) e))
-    where
-      clash : {h s : ℕ} → Refused n ≡ Factored h s → ⊥
-      clash q = let z : _≡_ {A = ℕ} 0 1 = cc in omega arith
-  refused (suc m) o n e a =
-      let same : n ≡ suc m = number (sym a ∙ ap (λ (x : WholeOutcome). x .answer) e) in
-      (refl, ap (λ (x : WholeOutcome). set (set (x .buffer) 0 3) 1 n) e ∙ first-two out 3 n size ∙ ap (λ (k : ℕ). refusalRecord k ++ drop 2 out) same)
-    where
-      number : Refused n ≡ Refused (suc m) → n ≡ suc m
-      number q = cc
+  refused zero o e a = absurd (a (ap (λ (x : WholeOutcome). x .reply .number) e))
+  refused (suc m) o e a = (refl, ap (λ (x : WholeOutcome). set (set (x .buffer) 0 3) 1 (x .reply .number)) e ∙ first-two out 3 (suc m) size)
 
 slice-aggregate-whole : tie.Need-slice-aggregate-whole
 slice-aggregate-whole c = search needs
 
 whole-requires : tie.Need-whole-requires
 whole-requires c κs = search needs
-
-enum-told : tie.Need-enum-told
-enum-told c = search needs
-
-enum-known-answer : tie.Need-enum-known-answer
-enum-known-answer c = search needs
 
 refusal-record-requires : tie.Need-refusal-record-requires
 refusal-record-requires c κs = search needs
@@ -113,21 +96,21 @@ element-write-output-2 c = search needs
 returns : tie.Need-returns
 unfolding wholeOf
 returns c =
-    let w = c .before .before .before in
+    let w = c .before .before in
     let a = w .before .before .before .before .args in
     let size : length (now (a .output)) ≡ 2049 = search needs in
-    let p = accepted (now (a .input)) (now (a .output)) size _ _ _ _ (w .whole .ensures) (c .enum-told .given .1) in
+    let p = accepted (now (a .input)) (now (a .output)) size _ _ (w .whole .ensures) (c .if1 .taken) in
     rw (response-is (now (a .input)) (now (a .output)) size) (p .0, (p .1, omega (arith, w .whole .kept .1 .1 .0)))
 
 returns-2 : tie.Need-returns-2
 unfolding wholeOf
 returns-2 c =
-    let w = c .before .before .before .before .before in
+    let w = c .before .before .before in
     let a = w .before .before .before .before .args in
     let size : length (now (a .output)) ≡ 2049 = search needs in
-    let p = refused (now (a .input)) (now (a .output)) size _ _ _ (w .whole .ensures) (c .before .before .answer .given .1) in
+    let p = refused (now (a .input)) (now (a .output)) size _ _ (w .whole .ensures) (c .before .if1 .left) in
     rw (response-is (now (a .input)) (now (a .output)) size, c .refusal-record .ensures)
-    (p .0, (p .1, two-fit (w .whole .last .1 .1 .0) 3 (c .before .before .answer .given .0 .0) (w .whole .kept .1 .1 .0 ∙ size)))
+    (p .0, (p .1, two-fit (w .whole .last .1 .1 .0) 3 (w .whole .result .number) (w .whole .kept .1 .1 .0 ∙ size)))
 
 pub respond-spec : {M : Type 1} → statement M
 respond-spec =
@@ -135,12 +118,10 @@ respond-spec =
     (tie.spec
     slice-aggregate-whole
     whole-requires
-    enum-told
-    enum-known-answer
+    returns
     refusal-record-requires
     array-read-output
     element-write-output
     array-read-output-2
     element-write-output-2
-    returns
     returns-2)

@@ -1,6 +1,6 @@
 //! Accepted calls: replies, and that instalments, threads and a detour over records make no difference.
 use crate::lent::{matrix, mixed_matrix, Lent};
-use hubqr::{Loaded, Progress, AREA_WORDS, Q_ONE, RESULT_RECORD_BYTES, R_ONE, TURNS};
+use hubqr::{AREA_WORDS, Q_ONE, RESULT_RECORD_BYTES, R_ONE, TURNS};
 
 /// Load, Runs of one allowance, Fetch.
 fn in_instalments(record: &[u8], allowance: u16) -> Lent {
@@ -8,13 +8,18 @@ fn in_instalments(record: &[u8], allowance: u16) -> Lent {
     let mut turn = hubqr::load(record, &mut lent.area).unwrap().turn;
     while turn < TURNS {
         let progress = hubqr::run(turn, allowance, &mut lent.area).unwrap();
-        assert_eq!(progress.next, turn + progress.made);
-        assert_eq!(progress.made, u32::from(allowance).min(TURNS - turn));
+        assert_eq!(progress.turn, turn + progress.count);
+        assert_eq!(progress.count, u32::from(allowance).min(TURNS - turn));
         assert_eq!(progress.clamps, 0);
-        turn = progress.next;
+        turn = progress.turn;
     }
     hubqr::fetch(turn, &lent.area, &mut lent.buffer).unwrap();
     lent
+}
+
+#[test]
+fn the_archive_is_of_this_version() {
+    assert_eq!(hubqr::version(), hubqr::VERSION);
 }
 
 #[test]
@@ -22,9 +27,8 @@ fn load_answers_turn_0_and_who_was_heard() {
     for column in 0..8 {
         let record = matrix(|i, j| (i16::from(i == 3 && j == column), 0));
         let mut lent = Lent::new();
-        let heard = 1 << column;
-        let loaded = hubqr::load(&record, &mut lent.area);
-        assert_eq!(loaded, Ok(Loaded { turn: 0, heard }));
+        let loaded = hubqr::load(&record, &mut lent.area).unwrap();
+        assert_eq!((loaded.turn, loaded.heard), (0, 1 << column));
         assert!(lent.tails_untouched());
     }
 }
@@ -55,8 +59,8 @@ fn load_scales_and_places_the_parts() {
 fn instalments_make_no_difference() {
     let record = mixed_matrix();
     let mut whole = Lent::new();
-    let answer = hubqr::whole(&record, &mut whole.area, &mut whole.buffer).unwrap();
-    assert_eq!((answer.heard, answer.clamps), (0xff, 0));
+    let factored = hubqr::whole(&record, &mut whole.area, &mut whole.buffer).unwrap();
+    assert_eq!((factored.heard, factored.clamps), (0xff, 0));
     assert!(whole.tails_untouched());
     for allowance in [1, 7, 60, 119, 120, 121, u16::MAX] {
         assert_eq!(in_instalments(&record, allowance), whole, "{allowance}");
@@ -68,13 +72,9 @@ fn a_run_may_make_no_turn() {
     let mut lent = in_instalments(&mixed_matrix(), 120);
     let before = lent.clone();
     for (turn, allowance) in [(120, u16::MAX), (120, 0), (60, 0)] {
-        let progress = hubqr::run(turn, allowance, &mut lent.area);
-        let none = Progress {
-            next: turn,
-            made: 0,
-            clamps: 0,
-        };
-        assert_eq!(progress, Ok(none));
+        let progress = hubqr::run(turn, allowance, &mut lent.area).unwrap();
+        assert_eq!((progress.turn, progress.count), (turn, 0));
+        assert_eq!(progress.clamps, 0);
         assert_eq!(lent, before);
     }
 }
@@ -91,8 +91,9 @@ fn a_result_record_reads_back_to_itself() {
     let worked = in_instalments(&mixed_matrix(), 120);
     let mut lent = Lent::new();
     let record = &worked.buffer[..RESULT_RECORD_BYTES];
-    assert_eq!(hubqr::read(record, &mut lent.area), Ok(TURNS));
-    hubqr::fetch(TURNS, &lent.area, &mut lent.buffer).unwrap();
+    let restored = hubqr::read(record, &mut lent.area).unwrap();
+    assert_eq!(restored.turn, TURNS);
+    hubqr::fetch(restored.turn, &lent.area, &mut lent.buffer).unwrap();
     assert_eq!(lent, worked);
 }
 

@@ -36,8 +36,9 @@ fn each_record_is_heard_or_refused_as_said_and_its_result_checks() {
     for (name, expected) in SAMPLES {
         let record = fs::read(sample(&format!("{name}.bin"))).unwrap();
         let mut result = [0; RESULT_RECORD_BYTES];
-        let answer = hubqr::whole(&record, &mut [0; AREA_WORDS], &mut result);
-        assert_eq!(answer.map(|answer| answer.heard), expected, "{name}");
+        let factored = hubqr::whole(&record, &mut [0; AREA_WORDS], &mut result);
+        let heard = factored.map(|factored| factored.heard);
+        assert_eq!(heard, expected, "{name}");
         if expected.is_ok() {
             folder.write("m.bin", &record);
             folder.write("r.bin", result);

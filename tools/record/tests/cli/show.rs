@@ -118,7 +118,7 @@ fn what_is_no_record_is_refused_in_words() {
         (vec![3], "a refusal record has 2 bytes, this one 1".into()),
         (vec![3; 3], "a refusal record has 2 bytes, this one 3".into()),
         (vec![3, 0], "a refusal record of number 0, which is none".into()),
-        (vec![3, 9], "a refusal record of number 9, which is none".into()),
+        (vec![3, 255], "a refusal record of number 255, which is none".into()),
     ] {
         let shown = folder.run_with_input(&["show", "-"], &bytes);
         assert_eq!(shown.stderr, format!("record: standard input: {message}\n"));

@@ -4,8 +4,7 @@ use mathlib.Core.List.{List}
 use Prim.Native.Nat.{ℕ, zero, suc}
 use lib.IntN.{ℤ}
 use Rattle.engine.specs.Fetch.{fetchRefusal, fetchBy, fetchOf}
-use Rattle.engine.specs.declared.fetch.FetchAnswer.the-variants.{Refused}
-use Rattle.engine.proofs.Tests.{fetch-accepted}
+use Rattle.engine.proofs.Accepted.{fetch-accepted}
 use borrow.Author.Needs.{needs}
 use Rattle.engine.proofs.fetch.fetch.Statement.{statement}
 use Rattle.engine.proofs.fetch.fetch.Tie as tie
@@ -16,7 +15,7 @@ fetch-refusal-requires c κs = search needs
 same-length : tie.Need-same-length
 same-length c = search needs
 
-refused : (n : ℕ) (l : List ℤ) (buffer : List ℕ) → (n ≡ 0 → ⊥) → record { answer = Refused n; buffer = buffer } ≡ fetchBy n l buffer
+refused : (n : ℕ) (l : List ℤ) (buffer : List ℕ) → (n ≡ 0 → ⊥) → record { number = n; buffer = buffer } ≡ fetchBy n l buffer
 unfolding fetchBy
 refused zero l buffer f = absurd (f refl)
 refused (suc n) l buffer f = refl
@@ -25,7 +24,7 @@ returns : tie.Need-returns
 unfolding fetchOf
 returns c = rw (← c .before .fetch-refusal .ensures) (refused _ _ _ (c .if1 .taken))
 
-none : (c : tie.After-write-arg) → let a = c .before .before .before .before .before .args in fetchRefusal (a .next) (a .workspace .now) (a .buffer .now) ≡ 0
+none : (c : tie.After-write-arg) → let a = c .before .before .before .before .before .args in fetchRefusal (a .turn) (a .workspace .now) (a .buffer .now) ≡ 0
 none c = sym (c .before .before .fetch-refusal .ensures) ∙ c .before .if1 .left
 
 write-requires : tie.Need-write-requires

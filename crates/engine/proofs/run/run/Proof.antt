@@ -1,72 +1,85 @@
--- `run` meets its contract: each answer is the definition's, by the tests that led there. Assumes nothing.
-use Prim.Native.Nat.{ℕ, _+_}
-use mathlib.Core.Path.{_≡_}
+-- `run` meets its contract: number 0 says that the sizes are right, and another that nothing is changed. Assumes nothing.
+use Prim.Native.Nat.{ℕ, zero, suc, _+_}
+use mathlib.Core.Path.{_≡_, refl, sym, _∙_}
 use mathlib.Core.List.{List}
+use native.Mathlib.Omega.{arith}
 use lib.IntN.{ℤ}
 use denote.Ref.{now}
-use borrow.Author.Tests.{lt-ltb, le-ltb}
 use borrow.Author.Needs.{needs}
-use Rattle.givens.specs.Rotation.{Rows}
-use Rattle.engine.specs.declared.run.RunAnswer.the-variants.{Made}
-use Rattle.engine.specs.Rotations.{rotationsMade}
+use Rattle.rotation.specs.declared.Tally.{Tally}
+use Rattle.workspace.specs.Rotations.{rotationsMade, rotationsTally}
 use Rattle.engine.specs.Run.{runMade, runRefusal, runBy, runOf}
+use Rattle.engine.proofs.Accepted.{run-accepted}
 use Rattle.engine.proofs.run.run.Statement.{statement}
 use Rattle.engine.proofs.run.run.Tie as tie
 
-made-is : (n k : ℕ) (l : List ℤ) (r : Rows) → r ≡ rotationsMade n k l → record { answer = Made (n + k) k (r .saturations); workspace = r .words } ≡ runMade n k l
-unfolding runMade
-made-is n k l r e = rw e
+run-refusal-requires : tie.Need-run-refusal-requires
+run-refusal-requires c κs = search needs
+
+same-length : tie.Need-same-length
+same-length c = search needs
+
+refused : (n turn budget : ℕ) (l : List ℤ) → (n ≡ 0 → ⊥) → record { reply = record { number = n; turn = turn; count = 0; clamps = 0 }; workspace = l } ≡ runBy n turn budget l
+unfolding runBy
+refused zero turn budget l f = absurd (f refl)
+refused (suc n) turn budget l f = refl
 
 returns : tie.Need-returns
-unfolding runOf runRefusal runBy
-returns c = rw (lt-ltb _ _ (c .if1 .taken))
+unfolding runOf
+returns c = rw (← c .before .run-refusal .ensures) (refused _ _ _ _ (c .if1 .taken))
 
-returns-2 : tie.Need-returns-2
-unfolding runOf runRefusal runBy
-returns-2 c = rw (le-ltb _ _ (c .before .if1 .left), lt-ltb _ _ (c .if2 .taken))
+-- past the tests
+none : (c : tie.Else1) → let a = c .before .before .before .args in runRefusal (a .turn) (a .workspace .now) ≡ 0
+none c = sym (c .before .run-refusal .ensures) ∙ c .if1 .left
 
 sub-left : tie.Need-sub-left
-sub-left c = search needs
+sub-left c = omega (arith, run-accepted _ _ (none c) .before)
 
 smaller-requires : tie.Need-smaller-requires
 smaller-requires c κs = search needs
 
 make-rotations-requires : tie.Need-make-rotations-requires
-make-rotations-requires c κs = search needs
-
-cast-t13 : tie.Need-cast-t13
-cast-t13 c = search needs
+make-rotations-requires c κs =
+    let s = run-accepted _ _ (none (c .before .before)) in
+    (omega (arith, c .before .smaller .ensures, s .before), s .room)
 
 add-after : tie.Need-add-after
 add-after c = search needs
 
-cast-t14 : tie.Need-cast-t14
-cast-t14 c = search needs
+cast-next : tie.Need-cast-next
+cast-next c = search needs
 
-same-length : tie.Need-same-length
-same-length c = search needs
+cast-made : tie.Need-cast-made
+cast-made c = search needs
 
-returns-3 : tie.Need-returns-3
-unfolding runOf runRefusal runBy
-returns-3 c =
-    let d = c .before .before .before .before in
-    let a = d .before .before .args in
+same-length-2 : tie.Need-same-length-2
+same-length-2 c = search needs
+
+made-is : (turn count : ℕ) (l words : List ℤ) (t : Tally) → words ≡ rotationsMade turn count l → t ≡ rotationsTally turn count l
+    → record { reply = record { number = 0; turn = turn + count; count = count; clamps = t .saturations }; workspace = words } ≡ runMade turn count l
+unfolding runMade
+made-is turn count l words t d e = rw (d, e)
+
+returns-2 : tie.Need-returns-2
+unfolding runOf runBy
+returns-2 c =
     let m = c .before .before .before .smaller in
     let t = c .before .make-rotations in
-    rw (le-ltb _ _ (d .before .if1 .left), le-ltb _ _ (d .if2 .left), ← (m .ensures))
-    (made-is (a .next) (m .result) (now (a .workspace)) (record { words = t .last .1 .1 .0; saturations = t .result }) (t .ensures))
+    let a = c .before .before .before .before .before .before .before .args in
+    rw (none (c .before .before .before .before), ← (m .ensures)) (made-is (a .turn) (m .result) (now (a .workspace)) _ _ (t .ensures .0) (t .ensures .1))
 
 pub run-spec : {M : Type 1} → statement M
 run-spec =
     tie.close
     (tie.spec
+    run-refusal-requires
+    same-length
     returns
-    returns-2
     sub-left
     smaller-requires
     make-rotations-requires
     add-after
-    cast-t13
-    cast-t14
-    same-length
-    returns-3)
+    cast-next
+    cast-made
+    same-length-2
+    returns-2)

@@ -1,0 +1,56 @@
+-- The rotations of the schedule from the loaded words: the workspace after k of them, and that they count nothing. Assumes nothing.
+use mathlib.Core.Path.{_≡_, refl, ap}
+use mathlib.Core.List.{List}
+use Prim.Native.Nat.{ℕ, zero, suc, _+_, _^_, _≤_, _<_}
+use native.Mathlib.Nat.{zero-add}
+use native.Mathlib.Omega.{arith}
+use lib.IntN.{ℤ, natAbs}
+use lib.ListN.{length}
+use Rattle.rotation.specs.Tally.{noTally}
+use Rattle.rotation.proofs.Tallies.{tallied-none}
+use Rattle.schedule.specs.Schedule.{rotationAt}
+use Rattle.schedule.proofs.Clear.{rotation-shape}
+use Rattle.workspace.specs.Workspace.{wordIn}
+use Rattle.workspace.specs.Rotations.{workspaceRotated, workspaceTally, rotationsMade, rotationsTally}
+use Rattle.workspace.proofs.Products.{gram, GivensStep}
+use Rattle.workspace.proofs.GivensStep.{givens-step, workspace-uncounted}
+use Rattle.workspace.proofs.RotationsMade.{made-length, made-more}
+use Rattle.accuracy.specs.Demand3.{workspaceAfter}
+use Rattle.accuracy.proofs.Gram.{pair-norm-kept}
+
+-- ---- the workspace after k rotations
+
+module _ (l : List ℤ) (room : 512 ≤ length l) where
+  pub after-none : workspaceAfter l 0 ≡ l
+  unfolding workspaceAfter rotationsMade
+  after-none = refl
+
+  after-next : (k : ℕ) → workspaceAfter l (suc k) ≡ workspaceRotated (rotationAt k) (workspaceAfter l k)
+  unfolding workspaceAfter rotationsMade
+  after-next k = ap (λ (n : ℕ). workspaceRotated (rotationAt n) (rotationsMade 0 k l)) (zero-add k)
+
+  pub after-length : (k : ℕ) → k ≤ 120 → length (workspaceAfter l k) ≡ length l
+  unfolding workspaceAfter
+  after-length k h = made-length 0 k l (omega arith) room
+
+  pub after-rotated : (k : ℕ) → k < 120 → GivensStep (rotationAt k) (wordIn (workspaceAfter l k)) (wordIn (workspaceAfter l (suc k)))
+  after-rotated k h =
+      let s = rotation-shape k h in
+      rw (after-next k) (givens-step (rotationAt k) (workspaceAfter l k) (s .0) (s .1) (s .2) (omega (arith, after-length k (omega arith))))
+
+  -- rotations that follow others
+  pub after-more : (j k : ℕ) → rotationsMade j k (workspaceAfter l j) ≡ workspaceAfter l (j + k)
+  unfolding workspaceAfter
+  after-more j k = rw (zero-add j) at (made-more 0 j k l)
+
+  module _ (start : (a : ℕ) → a < 32 → natAbs (gram (wordIn (workspaceAfter l 0)) a a) ≤ 2 ^ 60) where
+    pub made-uncounted : (k : ℕ) → k < 120 → workspaceTally (rotationAt k) (workspaceAfter l k) ≡ noTally
+    made-uncounted k h =
+        let s = rotation-shape k h in
+        workspace-uncounted (rotationAt k) (workspaceAfter l k) (s .0) (s .1) (s .2) (omega (arith, after-length k (omega arith)))
+        (pair-norm-kept (λ (k : ℕ). wordIn (workspaceAfter l k)) after-rotated start k h)
+
+    pub more-uncounted : (j k : ℕ) → j + k ≤ 120 → rotationsTally j k (workspaceAfter l j) ≡ noTally
+    unfolding rotationsTally
+    more-uncounted j zero h = refl
+    more-uncounted j (suc k) h = rw (more-uncounted j k (omega arith), after-more j k, made-uncounted (j + k) (omega arith)) (tallied-none noTally)

@@ -1,0 +1,5 @@
+-- Their proofs; a theorem's proof stands in the file of the same name.
+pub mod Tails
+pub mod Silence
+pub mod Spread
+pub mod RoundTrip

@@ -1,0 +1,77 @@
+-- What Fetch writes, Read accepts and returns to the same words; what Read accepts, Fetch writes again byte for byte. Assumes nothing.
+use mathlib.Core.Path.{_≡_, refl, ap, _∙_}
+use mathlib.Core.List.{List, _∷_, _++_}
+use Prim.Native.Nat.{ℕ, _≤_}
+use native.Mathlib.Omega.{arith}
+use lib.IntN.{ℤ, pos}
+use lib.ListN.{length, getD, take, drop, replicate}
+use lib.Seq.{take-at}
+use Rattle.lists.specs.Lists.{filled, tabulate, allBelow}
+use Rattle.lists.proofs.Tabulate.{length-tabulate, getD-tabulate, length-filled}
+use Rattle.refusals.specs.Refusals.{headerTest}
+use Rattle.result_record.specs.ResultRecord.{resultByte, resultRecord, recordR, recordQ, recordWord, isFinishedAt, isFinished}
+use Rattle.result_record.proofs.ResultRecord.{finished-same}
+use Rattle.workspace.specs.Workspace.{wordIn, R, Q}
+use Rattle.workspace.specs.Reading.{readWord, readWords}
+use Rattle.workspace.proofs.Filled.{read-r, read-written, written-r, written-read}
+use Rattle.engine.specs.Fetch.{fetchRefusal, fetchBy, fetchOf}
+use Rattle.engine.specs.Read.{readRefusal, readBy, readOf}
+use Rattle.engine.proofs.Accepted.{fetch-accepted, fetch-passes, read-accepted, read-passes}
+use Rattle.engine_laws.specs.RoundTrip.{Words32, Bytes, FetchThenRead, ReadThenFetch}
+
+-- ---- a fetched record
+
+module _ (turn : ℕ) (l : List ℤ) (buffer : List ℕ) (fits : Words32 l) (t : fetchRefusal turn l buffer ≡ 0) where
+  -- it is accepted
+  written-accepted : (other : List ℤ) → 512 ≤ length other → readRefusal (resultRecord (R l) (Q l)) other ≡ 0
+  unfolding resultRecord resultByte
+  written-accepted other room =
+      read-passes (resultRecord (R l) (Q l)) other (record {
+        header = record { tagged = getD-tabulate 2049 (resultByte (R l) (Q l)) 0 0 (omega arith); sized = length-tabulate 2049 (resultByte (R l) (Q l)) };
+        room = room;
+        finished = finished-same (recordR (resultRecord (R l) (Q l))) (Q l) (R l) (Q l) (written-r l fits) ∙ fetch-accepted turn l buffer t .finished;
+      })
+
+  -- and is what the first 2,049 bytes hold
+  written-is : take 2049 (fetchOf turn l buffer .buffer) ≡ resultRecord (R l) (Q l)
+  unfolding fetchOf fetchBy filled resultRecord
+  written-is = rw t (take-at (tabulate 2049 (resultByte (R l) (Q l))) (drop 2049 buffer) 2049 (length-tabulate 2049 (resultByte (R l) (Q l))))
+
+pub fetch-then-read : FetchThenRead
+unfolding readOf readBy
+fetch-then-read turn l other buffer fits t room =
+    rw (written-is turn l buffer fits t, written-accepted turn l buffer fits t other room, written-read l fits other (fetch-accepted turn l buffer t .room))
+
+-- ---- an accepted record
+
+-- Fetch accepts the workspace that Read filled
+filled-accepted : (rec : List ℕ) (l : List ℤ) (buffer : List ℕ) → readRefusal rec l ≡ 0 → 2049 ≤ length buffer → fetchRefusal 120 (readWords rec l) buffer ≡ 0
+filled-accepted rec l buffer t space =
+    let s = read-accepted rec l t in
+    fetch-passes 120 (readWords rec l) buffer (record {
+      room = omega (arith, length-filled 512 (readWord rec) l (s .room), s .room);
+      last = refl;
+      space = space;
+      finished = finished-same (R (readWords rec l)) (recordQ rec) (recordR rec) (recordQ rec) (read-r rec l) ∙ s .finished;
+    })
+
+-- and writes the record again
+written-again : (rec : List ℕ) (l : List ℤ) (buffer : List ℕ) → Bytes rec → readRefusal rec l ≡ 0 → filled 2049 (resultByte (R (readWords rec l)) (Q (readWords rec l))) buffer ≡ rec ++ drop 2049 buffer
+unfolding filled resultRecord
+written-again rec l buffer b t =
+    let s = read-accepted rec l t .header in
+    ap (λ (x : List ℕ). x ++ drop 2049 buffer) (read-written rec l b (s .tagged) (s .sized))
+
+pub read-then-fetch : ReadThenFetch
+unfolding readOf readBy fetchOf fetchBy
+read-then-fetch rec l buffer b t space = rw (t, filled-accepted rec l buffer t space, written-again rec l buffer b t)
+
+-- ---- the premises can be met: a workspace and a record of zeros
+
+pub fetch-possible : fetchRefusal 120 (replicate 512 (pos 0)) (replicate 2049 0) ≡ 0
+unfolding fetchRefusal isFinished isFinishedAt allBelow R wordIn
+fetch-possible = refl
+
+pub read-possible : readRefusal (2 ∷ replicate 2048 0) (replicate 512 (pos 0)) ≡ 0
+unfolding readRefusal headerTest isFinished isFinishedAt allBelow recordR recordWord
+read-possible = refl

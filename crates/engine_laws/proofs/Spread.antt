@@ -1,0 +1,48 @@
+-- Two Runs in a row make what one Run with the sum of their budgets makes. Assumes nothing.
+use mathlib.Core.Path.{_≡_, refl, ap}
+use mathlib.Core.List.{List}
+use Prim.Native.Nat.{ℕ, zero, suc, _+_, _-_, _≤_, min}
+use native.Mathlib.Nat.{add-assoc}
+use native.Mathlib.Omega.{arith}
+use lib.IntN.{ℤ}
+use lib.ListN.{length}
+use Rattle.rotation.specs.declared.Tally.{Tally}
+use Rattle.rotation.specs.Tally.{tallied}
+use Rattle.workspace.specs.Rotations.{rotationsMade, rotationsTally}
+use Rattle.workspace.proofs.RotationsMade.{made-length, made-more, tally-more}
+use Rattle.engine.specs.Run.{runRefusal, runMade, runBy, runOf}
+use Rattle.engine.proofs.Accepted.{run-accepted, run-passes}
+use Rattle.engine_laws.specs.Spread.{together, thenRun, Spread}
+
+-- what j turns and then k count
+counts : (turn j k : ℕ) (l : List ℤ) → rotationsTally turn j l .saturations + rotationsTally (turn + j) k (rotationsMade turn j l) .saturations ≡ rotationsTally turn (j + k) l .saturations
+unfolding tallied
+counts turn j k l = ap (λ (t : Tally). t .saturations) (tally-more turn j k l)
+
+-- the same for outcomes
+run-more : (turn j k : ℕ) (l : List ℤ) → let o = runMade turn j l in let p = runMade (turn + j) k (rotationsMade turn j l) in
+    record { reply = together (o .reply) (p .reply); workspace = p .workspace } ≡ runMade turn (j + k) l
+unfolding runMade
+run-more turn j k l = rw (made-more turn j k l, counts turn j k l, add-assoc turn j k)
+
+-- where the tests are passed
+accepted : (turn a b : ℕ) (l : List ℤ) → runRefusal turn l ≡ 0 → thenRun (runMade turn (min a (120 - turn)) l) b ≡ runMade turn (min (a + b) (120 - turn)) l
+unfolding runMade runOf runBy
+accepted turn a b l h =
+    let s = run-accepted turn l h in
+    let j : ℕ = min a (120 - turn) in
+    let k : ℕ = min b (120 - (turn + j)) in
+    let room : 512 ≤ length (rotationsMade turn j l) = omega (arith, made-length turn j l (omega arith) (s .room), s .room) in
+    let pass : runRefusal (turn + j) (rotationsMade turn j l) ≡ 0 = run-passes (turn + j) (rotationsMade turn j l) (record { room = room; before = omega arith }) in
+    let e : min (a + b) (120 - turn) ≡ j + k = omega arith in
+    rw (pass, e) (run-more turn j k l)
+
+-- where the first Run is refused, so is the second
+by-number : (number turn a b : ℕ) (l : List ℤ) → runRefusal turn l ≡ number → thenRun (runBy number turn a l) b ≡ runBy number turn (a + b) l
+unfolding runBy runOf
+by-number zero turn a b l h = accepted turn a b l h
+by-number (suc m) turn a b l h = rw h
+
+pub spread : Spread
+unfolding runOf
+spread turn a b l = by-number (runRefusal turn l) turn a b l refl

@@ -1,0 +1,6 @@
+-- The theorems that the engine offers beside the contracts of its calls.
+pub mod Tails
+pub mod Silence
+pub mod Spread
+pub mod RoundTrip
+pub mod Marked

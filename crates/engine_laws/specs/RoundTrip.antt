@@ -1,0 +1,32 @@
+-- Demand 2: each finished result written as a record reads back to itself, and each accepted record is written again byte for byte.
+-- Assumes nothing.
+use mathlib.Core.Path.{_≡_}
+use mathlib.Core.List.{List, _++_}
+use Prim.Native.Nat.{ℕ, _≤_, _<_}
+use lib.IntN.{ℤ, pos}
+use lib.ListN.{length, getD, take, drop}
+use mir.Syntax.{w32}
+use mir.Val.{SFits}
+use Rattle.result_record.specs.ResultRecord.{resultBytes}
+use Rattle.schedule.specs.Schedule.{rotationCount}
+use Rattle.workspace.specs.Workspace.{workspaceWords}
+use Rattle.engine.specs.Fetch.{fetchRefusal, fetchOf}
+use Rattle.engine.specs.Read.{readRefusal, readOf}
+
+-- what a lent slice of 32-bit words, and one of bytes, always is
+abbrev pub Words32 : List ℤ → Type 0
+Words32 l = (k : ℕ) → SFits w32 (getD l k (pos 0))
+
+abbrev pub Bytes : List ℕ → Type 0
+Bytes rec = (k : ℕ) → getD rec k 0 < 256
+
+-- what an accepted Fetch writes, Read accepts, and it fills any workspace with the same 512 words
+abbrev pub FetchThenRead : Type 0
+FetchThenRead = (turn : ℕ) (l other : List ℤ) (buffer : List ℕ) → Words32 l → fetchRefusal turn l buffer ≡ 0 → workspaceWords ≤ length other
+    → readOf (take resultBytes (fetchOf turn l buffer .buffer)) other
+    ≡ record { reply = record { number = 0; turn = rotationCount }; workspace = take workspaceWords l ++ drop workspaceWords other }
+
+-- what Read accepts, Fetch writes again byte for byte
+abbrev pub ReadThenFetch : Type 0
+ReadThenFetch = (rec : List ℕ) (l : List ℤ) (buffer : List ℕ) → Bytes rec → readRefusal rec l ≡ 0 → resultBytes ≤ length buffer
+    → fetchOf rotationCount (readOf rec l .workspace) buffer ≡ record { number = 0; buffer = rec ++ drop resultBytes buffer }

@@ -1,0 +1,22 @@
+-- Demand 2: the turns may be made in one call or spread over many. A Run with budget a and then one with budget b, handed the turn number that the
+-- first answered, leave the same words, answer the same turn number, and in total the same turns made and clamps as one Run with a + b. Where the first
+-- is refused, so are the others, by the same number. The turn number and the budgets are any whole numbers, and the words any. Assumes nothing.
+use mathlib.Core.Path.{_≡_}
+use mathlib.Core.List.{List}
+use Prim.Native.Nat.{ℕ, _+_}
+use lib.IntN.{ℤ}
+use Rattle.engine.specs.declared.run.RunReply.{RunReply}
+use Rattle.engine.specs.Run.{RunOutcome, runOf}
+
+-- the reply of two Runs in a row, with what they counted added up
+abbrev pub together : RunReply → RunReply → RunReply
+together r s = record { number = s .number; turn = s .turn; count = r .count + s .count; clamps = r .clamps + s .clamps }
+
+-- after an outcome a Run with budget b
+abbrev pub thenRun : RunOutcome → ℕ → RunOutcome
+thenRun o b =
+    let p = runOf (o .reply .turn) b (o .workspace) in
+    record { reply = together (o .reply) (p .reply); workspace = p .workspace }
+
+abbrev pub Spread : Type 0
+Spread = (turn a b : ℕ) (workspace : List ℤ) → thenRun (runOf turn a workspace) b ≡ runOf turn (a + b) workspace

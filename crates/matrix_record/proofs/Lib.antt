@@ -1,0 +1,2 @@
+-- Laws of the matrix record that several proofs cite.
+pub mod MatrixRecord

@@ -1,0 +1,2 @@
+-- The matrix record.
+pub mod MatrixRecord

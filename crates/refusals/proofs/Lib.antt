@@ -1,0 +1,2 @@
+-- What the number of tests in sequence says.
+pub mod Refusals

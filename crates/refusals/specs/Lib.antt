@@ -1,0 +1,2 @@
+-- The refusal numbers, the tests that every call shares, and the refusal record.
+pub mod Refusals

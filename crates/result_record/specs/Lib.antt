@@ -1,0 +1,2 @@
+-- The result record.
+pub mod ResultRecord

@@ -1,0 +1,34 @@
+-- Rotations of the workspace in the order of the schedule: the words that they make, and what they count. What stands behind the 512 words is carried
+-- along. Assumes nothing.
+use Prim.Native.Nat.{ℕ, zero, suc, _+_, _-_, _*_}
+use mathlib.Core.List.{List, _++_}
+use lib.IntN.{ℤ}
+use lib.ListN.{take, drop}
+use Rattle.rotation.specs.declared.Tally.{Tally}
+use Rattle.rotation.specs.Column.{rowWords}
+use Rattle.rotation.specs.Rotated.{rotated, tallyOf}
+use Rattle.rotation.specs.Tally.{noTally, tallied}
+use Rattle.schedule.specs.declared.Rotation.{Rotation}
+use Rattle.schedule.specs.Schedule.{rotationAt}
+
+-- the part of the workspace that begins at a rotation's upper row
+abbrev pub rowsFrom : Rotation → List ℤ → List ℤ
+rowsFrom t l = drop (t .upper * rowWords) l
+
+-- the workspace with that part rotated
+unfoldable pub workspaceRotated : Rotation → List ℤ → List ℤ
+workspaceRotated t l = take (t .upper * rowWords) l ++ rotated (t .column) (t .lower - t .upper) (rowsFrom t l)
+
+-- what the rotation counts
+unfoldable pub workspaceTally : Rotation → List ℤ → Tally
+workspaceTally t l = tallyOf (t .column) (t .lower - t .upper) (rowsFrom t l)
+
+-- k rotations from rotation number n on
+unfoldable pub rotationsMade : ℕ → ℕ → List ℤ → List ℤ
+rotationsMade n zero l = l
+rotationsMade n (suc k) l = workspaceRotated (rotationAt (n + k)) (rotationsMade n k l)
+
+-- what they count
+unfoldable pub rotationsTally : ℕ → ℕ → List ℤ → Tally
+rotationsTally n zero l = noTally
+rotationsTally n (suc k) l = tallied (rotationsTally n k l) (workspaceTally (rotationAt (n + k)) (rotationsMade n k l))

@@ -1,0 +1,62 @@
+/* What the header says by itself: sizes and places that the archive was compiled with, the version, the refusals in words. */
+#include "check.h"
+
+#include <string.h>
+
+#define SIZE(type, bytes) _Static_assert(sizeof(struct type) == (bytes), "size of struct " #type)
+#define PLACE(type, field, offset) _Static_assert(offsetof(struct type, field) == (offset), "place of " #type "." #field)
+
+SIZE(hubqr_load_reply, 8);
+PLACE(hubqr_load_reply, number, 0);
+PLACE(hubqr_load_reply, heard, 1);
+PLACE(hubqr_load_reply, turn, 4);
+
+SIZE(hubqr_run_reply, 16);
+PLACE(hubqr_run_reply, number, 0);
+PLACE(hubqr_run_reply, turn, 4);
+PLACE(hubqr_run_reply, count, 8);
+PLACE(hubqr_run_reply, clamps, 12);
+
+SIZE(hubqr_read_reply, 8);
+PLACE(hubqr_read_reply, number, 0);
+PLACE(hubqr_read_reply, turn, 4);
+
+SIZE(hubqr_whole_reply, 8);
+PLACE(hubqr_whole_reply, number, 0);
+PLACE(hubqr_whole_reply, heard, 1);
+PLACE(hubqr_whole_reply, clamps, 4);
+
+_Static_assert(HUBQR_VERSION_MINOR < 100 && HUBQR_VERSION_PATCH < 100, "two digits each in HUBQR_VERSION");
+_Static_assert(HUBQR_AREA_ROWS * HUBQR_AREA_COLUMNS == HUBQR_AREA_WORDS, "the area's shape");
+_Static_assert(HUBQR_MATRIX_RECORD_BYTES == 1 + 64 * 4, "64 elements of four bytes behind the kind byte");
+_Static_assert(HUBQR_RESULT_RECORD_BYTES == 1 + HUBQR_AREA_WORDS * 4, "the area's words behind the kind byte");
+
+/* The numbers of the refusals, in the header's order. */
+#define NUMBER(name, number, words) number,
+static const uint8_t numbers[] = {HUBQR_REFUSALS(NUMBER)};
+enum { REFUSALS = sizeof numbers };
+
+/* Each number from 1 on is a refusal with words of its own; every other one is told from them. */
+static void test_words(void)
+{
+    const char *none = hubqr_refusal_words(255);
+    CHECK("words of a number that is none", strcmp(none, "no refusal number") == 0);
+    CHECK("words of 0", strcmp(hubqr_refusal_words(HUBQR_ACCEPTED), "accepted") == 0);
+    CHECK("words of 4", strcmp(hubqr_refusal_words(HUBQR_ALL_ZERO), "all 64 elements of the matrix are zero") == 0);
+    for (int k = 0; k < REFUSALS; k++) {
+        CHECK("refusals are numbered from 1 on", numbers[k] == k + 1);
+        for (int other = 0; other < k; other++) {
+            CHECK("words differ", strcmp(hubqr_refusal_words(numbers[k]), hubqr_refusal_words(numbers[other])) != 0);
+        }
+        CHECK("a refusal has words", strcmp(hubqr_refusal_words(numbers[k]), none) != 0);
+    }
+    for (int number = REFUSALS + 1; number < 256; number++) {
+        CHECK("any other number", strcmp(hubqr_refusal_words((uint8_t)number), none) == 0);
+    }
+}
+
+void test_face(void)
+{
+    CHECK("header and archive are of one version", hubqr_version() == HUBQR_VERSION);
+    test_words();
+}

@@ -1,0 +1,15 @@
+/* -Werror=stringop-overflow: an area of 511 words is said to have 512. */
+#include "hubqr.h"
+
+#ifdef RIGHT
+#define WORDS HUBQR_AREA_WORDS
+#else
+#define WORDS (HUBQR_AREA_WORDS - 1)
+#endif
+
+static int32_t area[WORDS];
+
+uint32_t work(uint32_t turn)
+{
+    return hubqr_run(turn, 7, area, HUBQR_AREA_WORDS).turn;
+}
