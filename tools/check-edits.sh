@@ -110,11 +110,16 @@ function read_entry(entry,   at, place, law) {
     if (!at) return
     place = inside(substr(entry, 1, at - 1))
     entry = substr(entry, at + 9)
-    if (entry ~ /that +can +be +named +from +here/) { unfit[place] = 1; return }
+    if (unfit_error(entry)) { unfit[place] = 1; return }
     if (entry !~ /^`[^`]+`/ || entry ~ /was not admitted.*so this cannot be checked/) return
     law = substr(entry, 2)
     law = substr(law, 1, index(law, "`") - 1)
     law_files[law] = law_files[law] " " place
+}
+
+# an error of the proof text alone: it names a need or a field that the edited code does not have, or answers one need with the proof of another
+function unfit_error(entry) {
+    return entry ~ /that +can +be +named +from +here/ || entry ~ /record `[^`]*` +has +no +field/ || entry ~ /expected type `tie\.Need-/
 }
 
 # the path inside of the crate of a place PATH:LINE:COLUMN

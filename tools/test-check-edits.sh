@@ -100,6 +100,15 @@ program one 'fn: m::f' | edit one
 } | log one
 expect 1 'one: it made the text of proofs/m/f/Proof.antt unfit'
 
+for fault in 'record `Lts.After-add` has no field `before`' 'expected type `tie.Need-sub`, but this has type `tie.Need-cast`'; do
+    program one 'fn: m::f' | edit one
+    {
+        echo "proofs/m/f/Proof.antt:1:2: error: \`returns\`: $fault"
+        echo 'fn m::f: not proved'
+    } | log one
+    expect 1 'one: it made the text of proofs/m/f/Proof.antt unfit'
+done
+
 program one 'fn: m::f' | edit one
 {
     echo 'proofs/m/f_more/Proof.antt:1:2: error: `add`: module `Tie` has no `Need-add` that can be named from here'

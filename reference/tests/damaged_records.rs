@@ -150,6 +150,21 @@ fn result_records_with_a_damaged_byte() {
 }
 
 #[test]
+fn the_first_word_is_refused_by_its_sign_alone() {
+    for number in 0..2 {
+        let (word, refusal) = if number == 0 {
+            (0x00FF_FFFF_u32, 0)
+        } else {
+            (u32::MAX, 8)
+        };
+        let mut record = result_record(&mut Random::for_case(210, number));
+        record[1..5].copy_from_slice(&word.to_be_bytes());
+        let mut both = Both::new(Case::new("first word", 210, number, &record));
+        assert_eq!(both.read(&record).number, refusal, "first word {word:08X}");
+    }
+}
+
+#[test]
 fn fetch_refuses_a_damaged_area() {
     for number in 0..500 {
         let case = Case::of_words("damaged area", 208, number);
