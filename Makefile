@@ -1,7 +1,22 @@
-# make run      factors a shipped sample record through the real program and shows R and Q
-# make test     the gate: the documents, the proofs, the wrong programs, the C and Rust faces, the comparison with the independent implementation
-# make demands  writes docs/DEMANDS.md from docs/demands.txt and the tree
-# make bench    times the engine against other implementations; make figures draws the measured errors
+# make                  lists this
+# make run              factors a sample record: shows the matrix, R and Q, and checks them
+# make test             the gate: all that is proved and checked, ends in a line `N passed, 0 failed`
+# make build/libhubqr.a the archive for C and Rust
+# make build/qr         the program
+# make prove            every crate from nothing, every wrong program
+# make check-docs       each promise is pinned, and the documents cite what is there
+# make check-format     the layout of the Rattle and the Rust side, and what clippy says of the latter
+# make check-tools      the tools of the gate notice what they should
+# make check-edits      each wrong program was refused by itself; after prove
+# make check-face       header, archive, host/rust and the exports in crates/ agree
+# make check-archive    the archive is the same when it is made again
+# make check-c          the tests in C and C++, by gcc, clang and under valgrind
+# make check-rust       the tests in Rust, the comparison with the independent implementation among them
+# make check-examples   the examples, and what `make run` shows
+# make demands          writes docs/DEMANDS.md and docs/PINS.md from docs/demands.txt and the tree
+# make bench            times the engine against other implementations
+# make figures          draws the measured errors
+# make clean            removes what was made
 SHELL := /bin/sh
 CC ?= cc
 CXX ?= c++
@@ -9,22 +24,43 @@ CFLAGS := -std=c11 -Wall -Wextra -Werror -pedantic -Iinclude
 CARGO := cargo --quiet
 SOURCES := crates.txt $(shell find crates -type f)
 TOOLS := build/cargo/release
+# rt waits for each batch of its checks, and they are of unequal length: with two jobs for each processor it waits less.
+RT_JOBS ?= $(shell n=$$(nproc 2> /dev/null) || n=1; echo $$((2 * n)))
+export RT_JOBS
 
 # The targets share target/ and the order of `test` is meant, so one is made after the other; rt and cargo use every core themselves.
 .NOTPARALLEL:
-.PHONY: run test prove demands bench figures clean
-.PHONY: check-docs check-format check-tools check-edits check-face check-c check-rust check-examples
+.PHONY: help run test prove demands bench figures clean
+.PHONY: check-docs check-format check-tools check-edits check-face check-archive check-c check-rust check-examples
 
-run: build/qr $(TOOLS)/record
-	build/qr < examples/records/hermitian.bin | $(TOOLS)/record show -
+help:
+	@sed -n 's/^# \(make .*\)/\1/p' Makefile
+
+# What a machine needs before something is made, said in a sentence where it is missing. Behind '|', since it makes nothing out of date.
+need-%: FORCE
+	@CC='$(CC)' CXX='$(CXX)' sh tools/need.sh $*
+
+prove build/libhubqr.a build/qr check-tools: | need-platform need-rt
+check-docs check-tools check-format check-rust demands bench figures $(TOOLS)/record $(TOOLS)/instalments: | need-cargo
+check-format: | need-rt need-rustfmt need-clippy
+check-tools check-c check-examples bench: | need-cc need-gcc
+check-tools check-c: | need-c++
+
+run: $(TOOLS)/record build/qr
+	@sh examples/run.sh build/qr $(TOOLS)/record build/result.bin
 
 # What takes seconds comes first. The proofs are made once, and what is tested after them is built from what they left. The last line is their
-# verdict again, N passed, 0 failed: it is printed only when nothing before it failed.
-test: check-docs check-format check-tools prove check-edits check-face check-c check-rust check-examples
-	@grep '^[0-9]* passed, 0 failed$$' build/ci.log
+# verdict again, N passed, 0 failed: it is printed only when nothing before it failed, and when docs/PINS.md has the same one. That page lists every
+# crate, and counts the edit files of each, so that none goes unseen.
+test: check-docs check-format check-tools prove check-edits check-face check-archive check-c check-rust check-examples
+	@verdict="$$(grep '^[0-9]* passed, 0 failed$$' build/ci.log)" || exit 1; \
+	if ! grep -qF "last line is \`$$verdict\`" docs/PINS.md; then \
+	    echo "build/ci.log ends with \"$$verdict\", and docs/PINS.md names another last line: rt ci left a crate or an edit out, or took one more" >&2; \
+	    exit 1; \
+	fi; \
+	echo "$$verdict"
 
-# Every crate from nothing, every wrong program, each program run. The status goes by a file, since that of a pipe is tee's. RT_JOBS is left to rt, a
-# job for each processor: the edits of a crate take about the same time, so that larger batches would shorten the waits between them only a little.
+# Every crate from nothing, every wrong program, each program run. The status goes by a file, since that of a pipe is tee's.
 prove:
 	@mkdir -p build
 	@rm -f build/ci.status build/libhubqr.a build/qr
@@ -36,33 +72,37 @@ build/libhubqr.a: $(SOURCES)
 	@mkdir -p build
 	@echo 'proving hubqr and what it stands on: one or two minutes, seconds where that has just been proved ..'
 	@rt staticlib hubqr > build/staticlib.log 2>&1 || { cat build/staticlib.log; exit 1; }
-	cp target/staticlib/libhubqr.a $@
+	@cp target/staticlib/libhubqr.a $@
 
 build/qr: $(SOURCES)
 	@mkdir -p build
 	@echo 'proving qr and what it stands on: one or two minutes, seconds where that has just been proved ..'
 	@rt check qr > build/qr.log 2>&1 || { cat build/qr.log; exit 1; }
-	cp target/bin/qr $@
+	@cp target/bin/qr $@
 
 $(TOOLS)/record: FORCE
-	$(CARGO) build --release -p record
+	@$(CARGO) build --release -p record
 
 $(TOOLS)/instalments: build/libhubqr.a FORCE
 	$(CARGO) build --release -p instalments
 
-# docs/DEMANDS.md is what docs/demands.txt and the tree give, and what the documents cite is there.
+# docs/DEMANDS.md and docs/PINS.md are what docs/demands.txt and the tree give, each promise is pinned, and what the documents cite is there.
 check-docs:
 	$(CARGO) run --release -p demands -- --check
-	sh tools/check-docs.sh
 
 demands:
 	$(CARGO) run --release -p demands
 
+# clippy needs no archive, so that this comes before the proofs.
 check-format:
 	rt fmt --check
+	cargo fmt --all --check
+	cargo clippy --quiet --release --workspace --all-targets -- -D warnings
 
 check-tools:
 	sh tools/test-check-edits.sh
+	sh tools/test-need.sh
+	sh tools/test-make.sh
 
 check-edits:
 	sh tools/check-edits.sh
@@ -71,22 +111,24 @@ check-edits:
 check-face: build/libhubqr.a
 	sh tools/check-face.sh
 
-# The header and the archive agree, from C and from C++; once under valgrind where it is installed. Wrong programs do not compile.
+check-archive: build/libhubqr.a
+	sh tools/check-archive.sh
+
+# The header and the archive agree, from C and from C++. Wrong programs do not compile.
 check-c: build/libhubqr.a
 	sh host/c/compile.sh
-	$(CC) $(CFLAGS) -g host/c/*.c build/libhubqr.a -o build/test_hubqr
-	build/test_hubqr
-	@if command -v valgrind > /dev/null; then valgrind -q --leak-check=full --error-exitcode=1 build/test_hubqr; \
-	else echo 'valgrind is not installed: that run is left out'; fi
-	$(CXX) -std=c++17 -Wall -Wextra -Werror -pedantic -Iinclude host/c/test_header.cpp build/libhubqr.a -o build/test_header
-	build/test_header
+	CC='$(CC)' CXX='$(CXX)' sh host/c/test.sh
 
 check-rust: build/libhubqr.a build/qr
 	$(CARGO) test --release --workspace -- --nocapture
+	sh host/rust/test-project.sh
+	$(CARGO) run --release -p figures -- build
+	cmp build/errors.svg docs/figures/errors.svg
 
-check-examples: build/libhubqr.a $(TOOLS)/instalments
+check-examples: build/libhubqr.a build/qr $(TOOLS)/instalments $(TOOLS)/record
 	$(CC) $(CFLAGS) -O2 examples/instalments.c build/libhubqr.a -o build/instalments
 	sh examples/compare.sh build/instalments $(TOOLS)/instalments
+	sh examples/test-run.sh build/qr $(TOOLS)/record
 
 bench: build/libhubqr.a
 	$(CARGO) run --release -p bench

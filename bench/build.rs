@@ -6,11 +6,44 @@ use std::ffi::OsStr;
 use std::path::{Path, PathBuf};
 use std::process::Command;
 
-/// The versions in C: their names and their sources.
-const VERSIONS: [(&str, &[&str]); 3] = [
-    ("plain", &["plain.c", "calls.c"]),
-    ("wide", &["wide.c", "calls.c"]),
-    ("narrow", &["narrow.c", "wide.c", "calls.c"]),
+/// A version in C: its name, the turn that it makes, the processor that it is compiled for, and its
+/// sources.
+struct Version {
+    name: &'static str,
+    rotate: &'static str,
+    processor: &'static str,
+    sources: &'static [&'static str],
+}
+
+/// The processor that every x86-64 is, as the engine is compiled.
+const BASELINE: &str = "x86-64";
+
+const NARROW: Version = Version {
+    name: "narrow",
+    rotate: "rotate_narrow",
+    processor: BASELINE,
+    sources: &["narrow.c", "wide.c", "calls.c"],
+};
+
+const VERSIONS: [Version; 4] = [
+    Version {
+        name: "plain",
+        rotate: "rotate_plain",
+        processor: BASELINE,
+        sources: &["plain.c", "calls.c"],
+    },
+    Version {
+        name: "wide",
+        rotate: "rotate_wide",
+        processor: BASELINE,
+        sources: &["wide.c", "calls.c"],
+    },
+    NARROW,
+    Version {
+        name: "narrow_v3",
+        processor: "x86-64-v3",
+        ..NARROW
+    },
 ];
 
 fn main() {
@@ -32,8 +65,15 @@ fn watch() {
     for variable in ["HUBQR_EARLIER", "CPLUS_INCLUDE_PATH", "LIBRARY_PATH"] {
         println!("cargo:rerun-if-env-changed={variable}");
     }
-    let sources = VERSIONS.iter().flat_map(|(_, sources)| sources.iter());
-    for file in sources.chain(&["version.h", "lapack.c", "eigen.cpp"]) {
+    let sources = VERSIONS.iter().flat_map(|version| version.sources.iter());
+    let others = [
+        "version.h",
+        "double.h",
+        "lapack.c",
+        "lapack_complex.c",
+        "eigen.cpp",
+    ];
+    for file in sources.chain(&others) {
         println!("cargo:rerun-if-changed={file}");
     }
 }
@@ -50,13 +90,15 @@ fn versions(folder: &Path, compiler: &str) -> bool {
     if run(Command::new(compiler).arg("--version")).is_err() {
         return false;
     }
-    for (version, sources) in VERSIONS {
-        let name = format!("{compiler}_{version}");
+    for version in VERSIONS {
+        let name = format!("{compiler}_{}", version.name);
         let prefix = format!("-DVERSION={name}");
-        let rotate = format!("-DROTATE=rotate_{version}");
-        let objects = sources.iter().map(|source| {
+        let rotate = format!("-DROTATE={}", version.rotate);
+        let processor = format!("-march={}", version.processor);
+        let flags = ["-std=c11", &processor, &prefix, &rotate];
+        let objects = version.sources.iter().map(|source| {
             let object = folder.join(format!("{name}_{source}.o"));
-            compile(compiler, &["-std=c11", &prefix, &rotate], source, &object);
+            compile(compiler, &flags, source, &object);
             object
         });
         archive(folder, &name, &objects.collect::<Vec<_>>());
@@ -64,18 +106,23 @@ fn versions(folder: &Path, compiler: &str) -> bool {
     true
 }
 
-/// The comparator that calls LAPACK, if one can be linked.
+/// The comparators that call LAPACK, if it can be linked.
 fn lapack(folder: &Path) -> bool {
-    let (object, linked) = (folder.join("lapack.o"), folder.join("lapack.so"));
-    compile("gcc", &["-std=c11", "-fPIC"], "lapack.c", &object);
+    let objects = ["lapack", "lapack_complex"].map(|name| {
+        let object = folder.join(format!("{name}.o"));
+        let flags = ["-std=c11", "-fPIC"];
+        compile("gcc", &flags, &format!("{name}.c"), &object);
+        object
+    });
     let mut link = Command::new("gcc");
     link.args(["-shared", "-Wl,-z,defs", "-o"])
-        .args([&linked, &object])
+        .arg(folder.join("lapack.so"))
+        .args(&objects)
         .args(["-llapack", "-lblas"]);
     if run(&mut link).is_err() {
         return false;
     }
-    archive(folder, "comparator_lapack", &[object]);
+    archive(folder, "comparator_lapack", &objects);
     println!("cargo:rustc-link-lib=lapack");
     println!("cargo:rustc-link-lib=blas");
     true
@@ -101,9 +148,14 @@ fn eigen(folder: &Path) -> bool {
 /// answer by value, as this one does; an archive that tells no version answers through pointers, and
 /// to call it in this way would do anything.
 fn earlier(folder: &Path) -> bool {
-    let Some(path) = env::var_os("HUBQR_EARLIER") else {
+    let named = env::var_os("HUBQR_EARLIER").filter(|path| !path.is_empty());
+    let Some(path) = named else {
         return false;
     };
+    // Cargo runs this program in the crate's folder, so a path from elsewhere cannot be followed.
+    if !Path::new(&path).is_absolute() {
+        panic!("HUBQR_EARLIER is {path:?}, which is no absolute path: name it from the root");
+    }
     println!("cargo:rerun-if-changed={}", Path::new(&path).display());
     let names = exports(&path);
     if !names.iter().any(|name| name == "hubqr_version") {

@@ -2,12 +2,9 @@
 #include <Eigen/Dense>
 #include <cstdint>
 
-using Real = Eigen::Matrix<double, 16, 16>;
+#include "double.h"
 
-static double part(const uint8_t *bytes)
-{
-    return int16_t(bytes[0] << 8 | bytes[1]) / 32768.0;
-}
+using Real = Eigen::Matrix<double, 16, 16>;
 
 static Real loaded(const uint8_t *record)
 {

@@ -2,16 +2,13 @@
 #include <stdint.h>
 #include <string.h>
 
+#include "double.h"
+
 enum { N = 16, WORK = 64 * N };
 
 void dgeqrf_(const int *m, const int *n, double *a, const int *lda, double *tau, double *work, const int *lwork, int *info);
 void dorgqr_(const int *m, const int *n, const int *k, double *a, const int *lda, const double *tau, double *work,
              const int *lwork, int *info);
-
-static double part(const uint8_t *bytes)
-{
-    return (int16_t)(bytes[0] << 8 | bytes[1]) / 32768.0;
-}
 
 static void load(const uint8_t *record, double *a)
 {

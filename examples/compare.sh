@@ -8,14 +8,8 @@ if [ $# -ne 2 ]; then
     exit 2
 fi
 records=examples/records
-scratch=$(mktemp -d) || exit 1
-trap 'rm -rf "$scratch"' EXIT
-passed=0
-
-fail() {
-    echo "examples: FAILED after $passed checks: $1" >&2
-    exit 1
-}
+script=examples
+. tools/checks.sh
 
 # run NAME PROGRAM ARGUMENT...: keeps output, messages and status under NAME.
 run() {

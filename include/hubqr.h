@@ -2,7 +2,8 @@
  * SPDX-License-Identifier: Apache-2.0
  *
  * hubqr.h - QR factorization of the 8 by 8 complex matrix that a radio hub's eight antennas heard, by Givens rotations with
- * CORDIC steps in fixed point. Link with libhubqr.a; nothing else is needed. The archive is x86-64 ELF for Linux.
+ * CORDIC steps in fixed point. Link with libhubqr.a; nothing else is needed. The archive is for x86-64 Linux (ELF) and for no
+ * other machine, since the Rattle kit, which proves and compiles it, builds for no other.
  *
  * Use
  *   In one call:     hubqr_whole.

@@ -123,13 +123,64 @@ program one 'law: some-law' | edit one
 } | log one
 expect 1 'one: it made the text of proofs/Law.antt unfit'
 
+# several pairs of one program, each of which has its error
+table() {
+    printf 'wrong: one\n%s\nerrors: %s\nfile: src/lib.rt\nold: x\nnew: y\nold: u\nnew: v\n' "$1" "$2" | edit one
+    printf 'proofs/f/Proof.antt:%s: error: `rows`: the two types differ\n' 1:2 1:9 | log one
+    echo 'fn a::f: not proved' >> target/must-fail/a/one/.log
+}
+
+table 'law: rows' 2
+expect 0 'edits: 1 wrong programs'
+
+table 'law: rows' 3
+expect 1 'one: law rows has 2 errors in the log, and not 3'
+
+table 'fn: f' 2
+expect 0 'edits: 1 wrong programs'
+
+table 'fn: f' 1
+expect 1 'one: fn f has 2 errors in the log, and not 1'
+
+table 'fn: f' two
+expect 1 'one: line 3: errors: wants a number'
+
+# two fields of a record that is proved in one declaration
+record() {
+    { program one 'law: kept.words' && program two 'law: kept.written'; } | edit both
+    printf 'proofs/Law.antt:%s: error: `kept`: the two types differ\n' "$@" | log both
+    mkdir -p target/must-fail/a/both/proofs
+    printf 'other = record {\n  written = 1;\n}\nkept = record {\n  words =\n      one;\n  written = two;\n}\n' > target/must-fail/a/both/proofs/Law.antt
+}
+
+record 6:3 7:3
+expect 0 'edits: 2 wrong programs'
+
+record 6:3 6:5
+expect 1 'two: the log has no error of law kept.written itself'
+
+record 4:3 7:3
+expect 1 'one: the log has no error of law kept.words itself'
+
 { program one 'fn: f' && program two 'fn: a::f'; } | edit both
 echo 'fn f: not proved' | log both
 expect 1 'two: fn a::f is named by one as well'
 
+# a function that calls another wrong one: refused by itself only if its own proof has an error
+calls() {
+    { program one 'fn: f' && program two 'fn: g'; } | edit both
+    printf 'proofs/f/Proof.antt:1:2: error: %s\nfn g: not proved\nfn f: not proved; it calls `a::g`, which is not proved\n' "$1" | log both
+}
+
+calls '`returns`: the two types differ'
+expect 0 'edits: 2 wrong programs'
+
+calls '`f-spec`: `close` was not admitted (it was rejected), so this cannot be checked'
+expect 1 'one: fn a::f was not refused by itself: not proved; it calls `a::g`'
+
 { program one 'fn: f' && program two 'fn: g'; } | edit both
-printf 'fn g: not proved\nfn f: not proved; it calls `a::g`, which is not proved\n' | log both
-expect 1 'one: fn a::f calls fn a::g of two: give each a file of its own'
+printf 'proofs/f_more/Proof.antt:1:2: error: `returns`: the two types differ\nfn g: not proved\nfn f: not proved; it calls `a::g`, which is not proved\n' | log both
+expect 1 'one: fn a::f was not refused by itself: not proved; it calls `a::g`'
 
 expect 1 'edits: there are none'
 

@@ -56,6 +56,7 @@ pub fn check_double(comparator: &Comparator, seed: u64) -> Result<(), String> {
     for matrix in matrices(&mut Random::new(seed)) {
         let (mut q, mut r) = ([0.0; 256], [0.0; 256]);
         (comparator.factor)(&write_matrix(&matrix), &mut q, &mut r);
+        let (q, r) = ((comparator.real)(&q), (comparator.real)(&r));
         let error = product_error(&matrix.to_real(), &q, &r);
         if error.is_nan() || error > TOLERANCE {
             return Err(format!(

@@ -64,12 +64,16 @@ pub fn all() -> Vec<Contender> {
 
 /// What could have been compared but is not there, in words.
 pub fn missing() -> Vec<&'static str> {
-    vec![
+    let mut missing = vec![
         #[cfg(not(clang))]
         "clang is not installed: its versions in C are skipped",
         #[cfg(not(lapack))]
         "LAPACK is not installed: it is skipped",
         #[cfg(not(eigen))]
         "Eigen is not installed: it is skipped",
-    ]
+    ];
+    if !versions::has_v3() {
+        missing.push("the processor is no x86-64-v3: the versions in C for it are skipped");
+    }
+    missing
 }

@@ -80,6 +80,7 @@ fn print(options: &Options, results: &Results) {
         "The engine beside each",
         report::engine_over_others(results),
     );
+    section("Nine of ten rounds", report::spreads(results));
     section("Run from turn number 0", report::growth(results));
     section("Calls and Whole", report::shares(results));
 }

@@ -48,6 +48,21 @@ pub fn engine_over_others(results: &Results) -> Table {
     table
 }
 
+/// How far apart the rounds are.
+pub fn spreads(results: &Results) -> Table {
+    let mut table = Table::new(&["Whole over C plain, gcc", "median", "from", "to"]);
+    for name in results.names() {
+        let spread = results.spread(name, BASE.name, Measure::Whole);
+        table.rows.push(vec![
+            name.to_string(),
+            ratio(results.ratio(name, BASE.name, Measure::Whole)),
+            ratio(spread.map(|(from, _)| from)),
+            ratio(spread.map(|(_, to)| to)),
+        ]);
+    }
+    table
+}
+
 /// How Run's time grows with its allowance.
 pub fn growth(results: &Results) -> Table {
     let mut table = Table::new(&[

@@ -96,6 +96,13 @@ impl Results {
             .map(|base| stats::ratio(times, base))
     }
 
+    /// Between which ratios to the other nine of ten rounds lie, if both were timed at it.
+    pub fn spread(&self, name: &str, other: &str, measure: Measure) -> Option<(f64, f64)> {
+        let times = self.of(name, measure)?;
+        self.of(other, measure)
+            .map(|base| stats::spread(times, base))
+    }
+
     /// Cycles of the core in a nanosecond, if they are known.
     pub fn cycles_per_nanosecond(&self) -> Option<f64> {
         (!self.clock.is_empty()).then(|| stats::median(&self.clock))

@@ -48,16 +48,20 @@ macro_rules! version {
 version!(gcc_plain, "C plain, gcc");
 version!(gcc_wide, "C wide, gcc");
 version!(gcc_narrow, "C narrow, gcc");
+version!(gcc_narrow_v3, "C narrow, gcc, v3");
 #[cfg(clang)]
 version!(clang_plain, "C plain, clang");
 #[cfg(clang)]
 version!(clang_wide, "C wide, clang");
 #[cfg(clang)]
 version!(clang_narrow, "C narrow, clang");
+#[cfg(clang)]
+version!(clang_narrow_v3, "C narrow, clang, v3");
 
-/// The versions that were compiled, each shape by one compiler after the other.
+/// The versions that were compiled and that this processor can run, each shape by one compiler after
+/// the other.
 pub fn all() -> Vec<Contender> {
-    vec![
+    let mut versions = vec![
         gcc_plain::CONTENDER,
         #[cfg(clang)]
         clang_plain::CONTENDER,
@@ -67,5 +71,22 @@ pub fn all() -> Vec<Contender> {
         gcc_narrow::CONTENDER,
         #[cfg(clang)]
         clang_narrow::CONTENDER,
-    ]
+    ];
+    if has_v3() {
+        versions.push(gcc_narrow_v3::CONTENDER);
+        #[cfg(clang)]
+        versions.push(clang_narrow_v3::CONTENDER);
+    }
+    versions
+}
+
+/// Whether the processor is an x86-64-v3, whose vectors hold eight words of 32 bits.
+pub fn has_v3() -> bool {
+    is_x86_feature_detected!("avx2")
+        && is_x86_feature_detected!("bmi1")
+        && is_x86_feature_detected!("bmi2")
+        && is_x86_feature_detected!("f16c")
+        && is_x86_feature_detected!("fma")
+        && is_x86_feature_detected!("lzcnt")
+        && is_x86_feature_detected!("movbe")
 }

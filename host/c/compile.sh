@@ -1,6 +1,7 @@
 #!/bin/sh
 # What has to compile and what must not, run from the top of the repository:
 #   every header alone, as C11 and as C++17, by each compiler that is installed, without a warning
+#   the lines in C of README.md, in a function
 #   host/c/wrong/*.c: gcc refuses each for the warning that its first line names, and takes it with -DRIGHT, which removes the fault
 # gcc is named because other compilers may not know the attributes that find the faults.
 set -u
@@ -31,6 +32,20 @@ for header in include/*.h; do
         alone "${family#* }" c++17 c++ "${header#include/}"
     done
 done
+
+# readme: README's lines in C, with what they take from around them.
+readme() {
+    awk '
+    $0 == "```c" { on = 1; next }
+    /^```/ && on { print "}"; exit }
+    on
+    on && /^#include/ { print "void other_work(void);\nint hub(const uint8_t *record, size_t record_len);" }
+    on && /^#include/ { print "int hub(const uint8_t *record, size_t record_len) {" }
+    ' README.md
+}
+
+messages=$(readme | compile gcc -std=c11 -x c -) || fail "the lines in C of README.md: $messages"
+passed=$((passed + 1))
 
 for program in host/c/wrong/*.c; do
     warning=$(sed -n '1s/^\/\* \(-Werror=[a-z-]*\): .*/\1/p' "$program")

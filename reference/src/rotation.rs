@@ -118,6 +118,13 @@ mod tests {
         assert_eq!([2, -1, 3].map(scale), [1, -1, 2]);
     }
 
+    /// An odd multiple of 2^28 times the gain, over 2^30, ends in a half.
+    #[test]
+    fn a_half_is_rounded_up() {
+        assert_eq!(scale(268_435_456), 163_008_219);
+        assert_eq!(rotate_pair(-163_008_213, 0), (163_008_219, 0, 0));
+    }
+
     #[test]
     fn marked_cases_m10_to_m12() {
         assert_eq!(rotate_pair(1, 0), (17, 0, 0));

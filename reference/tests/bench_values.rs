@@ -54,9 +54,11 @@ fn every_turn_changes_its_rows_from_its_column_on() {
     }
 }
 
+/// The last pair is scaled from an odd multiple of 2^28, where rounding up and down differ.
 #[test]
 fn m10_to_m12_leading_pairs() {
-    for (upper, lower, outcome) in [(1, 0, 17), (0, 1, 1), (-1, 0, 17)] {
+    let rounded_up = (-163_008_213, 0, 163_008_219);
+    for (upper, lower, outcome) in [(1, 0, 17), (0, 1, 1), (-1, 0, 17), rounded_up] {
         let mut words = [0; AREA_WORDS];
         words[14 * COLUMNS + 14] = upper;
         words[15 * COLUMNS + 14] = lower;

@@ -18,6 +18,8 @@ use reference::schedule::TURNS;
 
 const TEST: &str = "matrices";
 const PER_KIND: u64 = 1000;
+/// All of them, as the documents say: 14 kinds, and 178 at the edges of the range.
+const MATRICES: u64 = 14_178;
 
 /// What was seen of one kind of matrix.
 struct Tally {
@@ -59,6 +61,7 @@ fn worked_matrices_agree_and_are_accurate() {
     for tally in &tallies {
         all.add(tally.matrices, tally.worst);
     }
+    assert_eq!(all.matrices, MATRICES);
     tallies.push(all);
     println!("\nThe largest error seen, as a share of 2^44:");
     println!(

@@ -2,11 +2,12 @@
 use mathlib.Core.Path.{_≡_, refl, sym, ap, _∙_, subst}
 use mathlib.Core.Logic.{_↔_}
 use mathlib.Core.List.{List, _++_}
-use Prim.Native.Nat.{ℕ, zero, suc, _+_, _-_, _≤_, _<_, min}
+use Prim.Native.Nat.{ℕ, zero, suc, _+_, _-_, _^_, _≤_, _<_, min}
 use native.Mathlib.Nat.{le-refl}
 use native.Mathlib.Omega.{arith}
-use lib.IntN.{ℤ}
+use lib.IntN.{ℤ, _-ℤ_}
 use lib.ListN.{length, drop}
+use Rattle.integers.specs.Within.{Within}
 use Rattle.lists.specs.Lists.{filled}
 use Rattle.lists.specs.Histories.{Place, Point}
 use Rattle.lists.proofs.Histories.{kept-at, kept-before}
@@ -23,9 +24,9 @@ use Rattle.engine.specs.Run.{RunOutcome, runMade, runBy, runOf}
 use Rattle.engine.specs.Fetch.{fetchRefusal, fetchBy, fetchOf}
 use Rattle.engine.proofs.Accepted.{load-accepted, fetch-accepted, fetch-passes}
 use Rattle.accuracy.specs.Factorization.{Factorization}
-use Rattle.accuracy.specs.Demand3.{Lent, loaded, other, RunCall, FetchCall, Call, run, fetch, State, wordsOf, lentOf, leftIn, ran, reply, fetched, refusal, Accepted, InStep, moved, after, Load, start, found, reached, EachInStep, workspaceAfter, Demand3}
+use Rattle.accuracy.specs.Demand3.{Lent, loaded, other, RunCall, FetchCall, Call, run, fetch, State, wordsOf, lentOf, leftIn, ran, reply, fetched, refusal, Accepted, InStep, moved, after, Load, start, found, reached, EachInStep, workspaceAfter, columnsProduct, Demand3}
 use Rattle.accuracy.proofs.WorkspaceAfter.{after-none, after-length, after-more, made-uncounted, more-uncounted}
-use Rattle.accuracy.proofs.Loading.{loaded-room, loaded-short, loaded-factored}
+use Rattle.accuracy.proofs.Loading.{loaded-room, loaded-short, loaded-bounded, loaded-factored}
 use Rattle.accuracy.proofs.Finished.{finished}
 
 -- ---- a Run is refused, or it is accepted
@@ -59,6 +60,11 @@ module _ (l : Load) where
 
   rotations-none : (j k : ℕ) → j + k ≤ 120 → rotationsTally j k (workspaceAfter (first l) j) ≡ noTally
   rotations-none = more-uncounted (first l) room (loaded-short (l .bytes) (l .small) (l .lent) lent-room)
+
+  -- the products of columns after each of them
+  rotations-bounded : (k : ℕ) → k ≤ 120 → (a b : ℕ) → a < 32 → b < 32
+      → Within (columnsProduct (workspaceAfter (first l) k) a b -ℤ columnsProduct (first l) a b) (2 ^ 44)
+  rotations-bounded = loaded-bounded (l .bytes) (l .small) (l .lent) lent-room
 
   -- the workspace after all rotations
   done : Factorization (realEntry (l .bytes)) (R (workspaceAfter (first l) 120)) (Q (workspaceAfter (first l) 120))
@@ -175,6 +181,7 @@ demand3 l calls each = record {
   turn-number = λ r p. turn-number l (found l p) (at p) r (each (run r) p);
   fetch-accepted = λ f p. fetch-iff l (found l p) (at p) f;
   words = λ p. holds p .workspace ∙ ap (λ (a : List ℤ). workspaceAfter a (min 120 (reached l p .granted))) (sym first-is);
+  bounded = λ p k h. rw first-is (rotations-bounded l k (omega arith));
   factored = λ p. factored-at l (reached l p) (holds p);
   written = λ f p z. fetch-written (found l p) f z (each (fetch f) p z);
 }

@@ -7,3 +7,4 @@ pub mod Finished
 pub mod Demand3
 pub mod Possible
 pub mod WholeDemand3
+pub mod Instalments

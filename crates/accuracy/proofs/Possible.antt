@@ -33,7 +33,7 @@ refused-stays s (run r) n =
 -- ---- refused calls among others
 
 -- the premise on a call
-abbrev Stepping : State → Call → Type 0
+abbrev pub Stepping : State → Call → Type 0
 Stepping s c = Accepted s c → InStep s c
 
 -- each call of the list is refused in the state s

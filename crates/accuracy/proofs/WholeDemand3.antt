@@ -64,7 +64,15 @@ module _ (l : Load) (buffer : List ℕ) (space : 2049 ≤ length buffer) (passed
 
   whole-kept : WholeKept l buffer
   unfolding afterAll
-  whole-kept = record { kept = kept; accepted = fetch-taken l buffer space; answer = answer; words = words; written = written; no-clamps = no-clamps; factored = factored }
+  whole-kept = record {
+    kept = kept;
+    accepted = fetch-taken l buffer space;
+    answer = answer;
+    words = words;
+    written = written;
+    no-clamps = no-clamps;
+    factored = factored;
+  }
 
 pub whole-demand3 : WholeDemand3
 whole-demand3 bytes lent buffer small passed =

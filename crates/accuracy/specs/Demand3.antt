@@ -3,14 +3,16 @@
 use mathlib.Core.Path.{_≡_}
 use mathlib.Core.Logic.{_↔_}
 use mathlib.Core.List.{List, _++_}
-use Prim.Native.Nat.{ℕ, zero, suc, _+_, _≤_, _<_, min}
-use lib.IntN.{ℤ}
+use Prim.Native.Nat.{ℕ, zero, suc, _+_, _^_, _≤_, _<_, min}
+use lib.IntN.{ℤ, _-ℤ_, _*ℤ_}
 use lib.ListN.{length, getD, drop}
+use Rattle.integers.specs.Within.{Within}
+use Rattle.integers.specs.Sum.{sum}
 use Rattle.lists.specs.Histories.{afterAll, Place, Point, Each}
 use Rattle.schedule.specs.Schedule.{rotationCount, rotationAt}
 use Rattle.matrix_record.specs.MatrixRecord.{realEntry}
 use Rattle.result_record.specs.ResultRecord.{resultBytes, resultRecord}
-use Rattle.workspace.specs.Workspace.{R, Q}
+use Rattle.workspace.specs.Workspace.{wordIn, R, Q}
 use Rattle.workspace.specs.Rotations.{workspaceTally, rotationsMade}
 use Rattle.engine.specs.declared.run.RunReply.{RunReply}
 use Rattle.engine.specs.Load.{loadRefusal, loadOf}
@@ -149,6 +151,10 @@ EachInStep l calls = Each after (λ s c. Accepted s c → InStep s c) (start l) 
 unfoldable pub workspaceAfter : List ℤ → ℕ → List ℤ
 workspaceAfter l k = rotationsMade 0 k l
 
+-- the sum of products of columns a and b, over the 16 rows; of a column with itself, the square of its length
+unfoldable pub columnsProduct : List ℤ → ℕ → ℕ → ℤ
+columnsProduct l a b = sum 16 (λ i. wordIn l i a *ℤ wordIn l i b)
+
 -- what is promised of a list of calls
 pub record Kept (l : Load) (calls : List Call) : Type 0 where
   -- no word is ever clamped: step 4 counts none in any turn made, and every Run, a refused one too, answers 0 clamps
@@ -163,6 +169,9 @@ pub record Kept (l : Load) (calls : List Call) : Type 0 where
       → Accepted (found l p) (fetch f) ↔ ((rotationCount ≤ found l p .granted) × (resultBytes ≤ length (f .buffer)))
   -- the workspace is what turns 0, 1, .. in tree order make of the loaded words: as many as the allowances make, 120 at most
   pub words : (p : Point calls) → reached l p .workspace ≡ workspaceAfter (start l .workspace) (min rotationCount (reached l p .granted))
+  -- after each of the turns made so far, the sum of products of any two columns lies within 2^44 of that of the loaded words
+  pub bounded : (p : Point calls) (k : ℕ) → k ≤ min rotationCount (reached l p .granted) → (a b : ℕ) → a < 32 → b < 32
+      → Within (columnsProduct (workspaceAfter (start l .workspace) k) a b -ℤ columnsProduct (start l .workspace) a b) (2 ^ 44)
   -- once the allowances make 120 or more, the matrix is worked to the end
   pub factored : (p : Point calls) → rotationCount ≤ reached l p .granted
       → Factorization (realEntry (l .bytes)) (R (reached l p .workspace)) (Q (reached l p .workspace))

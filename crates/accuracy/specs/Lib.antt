@@ -1,4 +1,5 @@
--- Demand 3: what a worked matrix is, lists of calls, and what is promised of each list.
+-- Demand 3: what a worked matrix is, lists of calls, what is promised of each list, and lists that meet its premise.
 pub mod Factorization
 pub mod Demand3
 pub mod WholeDemand3
+pub mod Instalments

@@ -1,17 +1,16 @@
 -- What Fetch writes, Read accepts and returns to the same words; what Read accepts, Fetch writes again byte for byte. Assumes nothing.
 use mathlib.Core.Path.{_≡_, refl, ap, _∙_}
-use mathlib.Core.List.{List, _∷_, _++_}
+use mathlib.Core.List.{List, _++_}
 use Prim.Native.Nat.{ℕ, _≤_}
 use native.Mathlib.Omega.{arith}
-use lib.IntN.{ℤ, pos}
-use lib.ListN.{length, getD, take, drop, replicate}
+use lib.IntN.{ℤ}
+use lib.ListN.{length, getD, take, drop}
 use lib.Seq.{take-at}
-use Rattle.lists.specs.Lists.{filled, tabulate, allBelow}
+use Rattle.lists.specs.Lists.{filled, tabulate}
 use Rattle.lists.proofs.Tabulate.{length-tabulate, getD-tabulate, length-filled}
-use Rattle.refusals.specs.Refusals.{headerTest}
-use Rattle.result_record.specs.ResultRecord.{resultByte, resultRecord, recordR, recordQ, recordWord, isFinishedAt, isFinished}
+use Rattle.result_record.specs.ResultRecord.{resultByte, resultRecord, recordR, recordQ}
 use Rattle.result_record.proofs.ResultRecord.{finished-same}
-use Rattle.workspace.specs.Workspace.{wordIn, R, Q}
+use Rattle.workspace.specs.Workspace.{R, Q}
 use Rattle.workspace.specs.Reading.{readWord, readWords}
 use Rattle.workspace.proofs.Filled.{read-r, read-written, written-r, written-read}
 use Rattle.engine.specs.Fetch.{fetchRefusal, fetchBy, fetchOf}
@@ -65,13 +64,3 @@ written-again rec l buffer b t =
 pub read-then-fetch : ReadThenFetch
 unfolding readOf readBy fetchOf fetchBy
 read-then-fetch rec l buffer b t space = rw (t, filled-accepted rec l buffer t space, written-again rec l buffer b t)
-
--- ---- the premises can be met: a workspace and a record of zeros
-
-pub fetch-possible : fetchRefusal 120 (replicate 512 (pos 0)) (replicate 2049 0) ≡ 0
-unfolding fetchRefusal isFinished isFinishedAt allBelow R wordIn
-fetch-possible = refl
-
-pub read-possible : readRefusal (2 ∷ replicate 2048 0) (replicate 512 (pos 0)) ≡ 0
-unfolding readRefusal headerTest isFinished isFinishedAt allBelow recordR recordWord
-read-possible = refl

@@ -1,18 +1,19 @@
--- Two Runs in a row make what one Run with the sum of their budgets makes. Assumes nothing.
-use mathlib.Core.Path.{_≡_, refl, ap}
-use mathlib.Core.List.{List}
+-- Two Runs in a row, and any number of them, make what one Run with the sum of their budgets makes. Assumes nothing.
+use mathlib.Core.Path.{_≡_, refl, ap, _∙_}
+use mathlib.Core.List.{List, [], _∷_}
 use Prim.Native.Nat.{ℕ, zero, suc, _+_, _-_, _≤_, min}
 use native.Mathlib.Nat.{add-assoc}
 use native.Mathlib.Omega.{arith}
 use lib.IntN.{ℤ}
 use lib.ListN.{length}
+use Rattle.lists.specs.Lists.{sumOf}
 use Rattle.rotation.specs.declared.Tally.{Tally}
 use Rattle.rotation.specs.Tally.{tallied}
 use Rattle.workspace.specs.Rotations.{rotationsMade, rotationsTally}
 use Rattle.workspace.proofs.RotationsMade.{made-length, made-more, tally-more}
 use Rattle.engine.specs.Run.{runRefusal, runMade, runBy, runOf}
 use Rattle.engine.proofs.Accepted.{run-accepted, run-passes}
-use Rattle.engine_laws.specs.Spread.{together, thenRun, Spread}
+use Rattle.engine_laws.specs.Spread.{together, thenRun, Spread, thenRuns, SpreadList}
 
 -- what j turns and then k count
 counts : (turn j k : ℕ) (l : List ℤ) → rotationsTally turn j l .saturations + rotationsTally (turn + j) k (rotationsMade turn j l) .saturations ≡ rotationsTally turn (j + k) l .saturations
@@ -46,3 +47,11 @@ by-number (suc m) turn a b l h = rw h
 pub spread : Spread
 unfolding runOf
 spread turn a b l = by-number (runRefusal turn l) turn a b l refl
+
+-- ---- the budgets of a list
+
+pub spread-list : SpreadList
+unfolding thenRuns sumOf
+spread-list turn a [] l = ap (λ (n : ℕ). runOf turn n l) (omega arith)
+spread-list turn a (b ∷ bs) l =
+    rw (spread turn a b l) (spread-list turn (a + b) bs l ∙ ap (λ (n : ℕ). runOf turn n l) (add-assoc a b (sumOf bs)))

@@ -1,22 +1,33 @@
--- The marked cases M1 to M12 of document 01, "Bench values": one table, and one statement over all its rows, computed from the definitions that
--- the contracts cite. Assumes nothing.
+-- The marked cases M1 to M12 of document 01, "Bench values", and further ones: one table, and one statement over all its rows, computed from the
+-- definitions that the contracts cite. The rows are numerals, document 01's own or worked out from its words, and use nothing of those definitions.
+-- Assumes nothing.
 use mathlib.Core.Path.{_≡_, refl}
 use mathlib.Core.List.{List, [], _∷_, _++_}
-use Prim.Native.Nat.{ℕ}
+use Prim.Native.Nat.{ℕ, _+_, _-_, _*_}
 use lib.IntN.{ℤ, pos, negsuc}
 use lib.ListN.{getD, replicate}
 use Rattle.cordic.specs.Word.{scaled, saturate}
 use Rattle.cordic.specs.MicroRotation.{oriented, orientedPair, microRotation, microRotations, leading, sign}
-use Rattle.lists.specs.Lists.{tabulate}
+use Rattle.lists.specs.Lists.{tabulate, allBelow}
 use Rattle.rotation.specs.Column.{columnAt, rotatedAt, stored, columnStored}
 use Rattle.rotation.specs.Rotated.{rotatedWord, rotated}
 use Rattle.schedule.specs.Schedule.{stageRotations, survivors, stages, upFrom, columnStages, stagesRotations, columnsRotations, schedule, rotationAt}
-use Rattle.matrix_record.specs.MatrixRecord.{partOf, realEntry}
-use Rattle.workspace.specs.Loading.{loadedAt}
+use Rattle.refusals.specs.Refusals.{headerTest}
+use Rattle.matrix_record.specs.MatrixRecord.{partOf, realEntry, zeroElement, allZero, zeroColumn, heardBelow}
+use Rattle.result_record.specs.ResultRecord.{resultWord, resultByte}
+use Rattle.workspace.specs.Loading.{loadedAt, loadedWord}
+use Rattle.workspace.specs.Workspace.{wordIn, R, Q}
+use Rattle.engine.specs.Load.{loadRefusal, loadBy, loadOf}
+use Rattle.engine.specs.Whole.{wholeRefusal, wholeDone, wholeBy, wholeOf}
 
 pub data Case : Type 0 where
-  -- element (0, 0) of a record has these four bytes, and all others are zero: at a row and a column stands this word
-  loads : List ℕ → ℕ → ℕ → ℤ → Case
+  -- a matrix record has these four bytes from a byte position on, and all others but the first are zero: Load puts this word at a row and a
+  -- column
+  loads : ℕ → List ℕ → ℕ → ℕ → ℤ → Case
+  -- to such a record Load and Whole answer this heard byte
+  hears : ℕ → List ℕ → ℕ → Case
+  -- a workspace has this word at a row and a column, and all others are zero: the result record has these four bytes from a byte position on
+  writes : ℕ → ℕ → ℤ → ℕ → List ℕ → Case
   -- a rotation's number, its column, upper and lower row
   schedules : ℕ → ℕ → ℕ → ℕ → Case
   -- step 3 takes a word to another
@@ -24,12 +35,24 @@ pub data Case : Type 0 where
   -- the leading pair (x, y) of a rotation of column 0 becomes the pair (u, v)
   rotates : ℤ → ℤ → ℤ → ℤ → Case
 
+-- 257 bytes: 01, and these four at position p
+abbrev pub matrixWith : ℕ → List ℕ → List ℕ
+matrixWith p bytes = 1 ∷ replicate (p - 1) 0 ++ bytes ++ replicate (253 - p) 0
+
+-- 16 rows of 32 words, with w at row i, column j
+abbrev pub workspaceWith : ℕ → ℕ → ℤ → List ℤ
+workspaceWith i j w = replicate (i * 32 + j) (pos 0) ++ w ∷ replicate (511 - (i * 32 + j)) (pos 0)
+
 -- two rows of 32 words, with x and y in their leading column
 abbrev pub rowsOf : ℤ → ℤ → List ℤ
 rowsOf x y = x ∷ replicate 31 (pos 0) ++ y ∷ replicate 31 (pos 0)
 
 abbrev pub Says : Case → Type 0
-Says (loads bytes i j w) = loadedAt (1 ∷ bytes ++ replicate 252 0) i j ≡ w
+Says (loads p bytes i j w) = loadedWord (matrixWith p bytes) (i * 32 + j) ≡ w
+Says (hears p bytes h) =
+    (loadOf (matrixWith p bytes) (replicate 512 (pos 0)) .reply .heard ≡ h)
+    × (wholeOf (matrixWith p bytes) (replicate 512 (pos 0)) (replicate 2049 0) .reply .heard ≡ h)
+Says (writes i j w p bytes) = tabulate 4 (λ k. resultByte (R (workspaceWith i j w)) (Q (workspaceWith i j w)) (p + k)) ≡ bytes
 Says (schedules n j u l) = rotationAt n ≡ record { column = j; upper = u; lower = l }
 Says (scales w x) = scaled w ≡ x
 Says (rotates x y u v) = (getD (rotated 0 1 (rowsOf x y)) 0 (pos 0) ≡ u) × (getD (rotated 0 1 (rowsOf x y)) 32 (pos 0) ≡ v)
@@ -41,26 +64,63 @@ AllSay (c ∷ cs) = Says c × AllSay cs
 unfoldable pub cases : List Case
 cases =
     -- M1, M2, M3
-    loads (0 ∷ 1 ∷ 0 ∷ 0 ∷ []) 0 0 (pos 8192)
-    ∷ loads (128 ∷ 0 ∷ 0 ∷ 0 ∷ []) 0 0 (negsuc 268435455)
-    ∷ loads (0 ∷ 0 ∷ 128 ∷ 0 ∷ []) 0 8 (pos 268435456)
+    loads 1 (0 ∷ 1 ∷ 0 ∷ 0 ∷ []) 0 0 (pos 8192)
+    ∷ loads 1 (128 ∷ 0 ∷ 0 ∷ 0 ∷ []) 0 0 (negsuc 268435455)
+    ∷ loads 1 (0 ∷ 0 ∷ 128 ∷ 0 ∷ []) 0 8 (pos 268435456)
+    -- element (0, 1), which is 1 + 2i, bytes 5 to 8: its real part upper left and lower right, its imaginary part lower left, the negative of that
+    -- upper right
+    ∷ loads 5 (0 ∷ 1 ∷ 0 ∷ 2 ∷ []) 0 1 (pos 8192)
+    ∷ loads 5 (0 ∷ 1 ∷ 0 ∷ 2 ∷ []) 8 9 (pos 8192)
+    ∷ loads 5 (0 ∷ 1 ∷ 0 ∷ 2 ∷ []) 8 1 (pos 16384)
+    ∷ loads 5 (0 ∷ 1 ∷ 0 ∷ 2 ∷ []) 0 9 (negsuc 16383)
+    -- element (1, 0), bytes 33 to 36, in the same way: "row by row" is told apart from column by column
+    ∷ loads 33 (0 ∷ 1 ∷ 0 ∷ 2 ∷ []) 1 0 (pos 8192)
+    ∷ loads 33 (0 ∷ 1 ∷ 0 ∷ 2 ∷ []) 9 8 (pos 8192)
+    ∷ loads 33 (0 ∷ 1 ∷ 0 ∷ 2 ∷ []) 9 0 (pos 16384)
+    ∷ loads 33 (0 ∷ 1 ∷ 0 ∷ 2 ∷ []) 1 8 (negsuc 16383)
+    -- beside it the identity with 2^30 for one: its one from a zero, and from the one of another row
+    ∷ loads 5 (0 ∷ 1 ∷ 0 ∷ 2 ∷ []) 0 16 (pos 1073741824)
+    ∷ loads 5 (0 ∷ 1 ∷ 0 ∷ 2 ∷ []) 1 16 (pos 0)
+    -- the heard byte: a bit for each column and not for each row, of value 2^k, the last one too, and an imaginary part alone is heard
+    ∷ hears 33 (0 ∷ 1 ∷ 0 ∷ 0 ∷ []) 1
+    ∷ hears 5 (0 ∷ 1 ∷ 0 ∷ 0 ∷ []) 2
+    ∷ hears 253 (0 ∷ 1 ∷ 0 ∷ 0 ∷ []) 128
+    ∷ hears 117 (0 ∷ 0 ∷ 0 ∷ 1 ∷ []) 32
+    -- the result record: the kind byte 02 and the high byte first
+    ∷ writes 0 0 (pos 16909060) 0 (2 ∷ 1 ∷ 2 ∷ 3 ∷ [])
+    -- R row by row: word (0, 1) from word (1, 0)
+    ∷ writes 0 1 (pos 16909060) 5 (1 ∷ 2 ∷ 3 ∷ 4 ∷ [])
+    ∷ writes 1 0 (pos 16909060) 65 (1 ∷ 2 ∷ 3 ∷ 4 ∷ [])
+    -- then Q transposed, row by row as it stands in columns 16 to 31, and not Q
+    ∷ writes 0 17 (pos 16909060) 1029 (1 ∷ 2 ∷ 3 ∷ 4 ∷ [])
+    ∷ writes 1 16 (pos 16909060) 1089 (1 ∷ 2 ∷ 3 ∷ 4 ∷ [])
+    -- the last word, -2: two's complement from sign and magnitude
+    ∷ writes 15 31 (negsuc 1) 2045 (255 ∷ 255 ∷ 255 ∷ 254 ∷ [])
     -- M4 to M8
     ∷ schedules 7 0 14 15
     ∷ schedules 14 0 0 8
     ∷ schedules 22 1 1 3
     ∷ schedules 25 1 13 15
     ∷ schedules 119 14 14 15
+    -- the first stage pairs neighbours, first with second and third with fourth; the second stage pairs the rows that stand on
+    ∷ schedules 0 0 0 1
+    ∷ schedules 1 0 2 3
+    ∷ schedules 8 0 0 2
     -- M9
     ∷ scales (pos 2) (pos 1)
     ∷ scales (negsuc 0) (negsuc 0)
     ∷ scales (pos 3) (pos 2)
+    -- 2^28, where 2^29 is exactly the half that is added: 2^29 - 1 in its place would give 163008218
+    ∷ scales (pos 268435456) (pos 163008219)
     -- M10, M11, M12
     ∷ rotates (pos 1) (pos 0) (pos 17) (pos 0)
     ∷ rotates (pos 0) (pos 1) (pos 1) (pos 0)
     ∷ rotates (negsuc 0) (pos 0) (pos 17) (pos 0)
+    -- the same rounding in a whole rotation of a negative word: its 28 micro-rotations make 2^28 of it, and -1 under it, which is stored as 0
+    ∷ rotates (negsuc 163008212) (pos 0) (pos 163008219) (pos 0)
     ∷ []
 
 pub marked : AllSay cases
-unfolding cases loadedAt realEntry partOf rotationAt schedule columnsRotations stagesRotations columnStages stages survivors upFrom stageRotations scaled saturate oriented orientedPair microRotation microRotations leading sign columnAt rotatedAt stored columnStored rotatedWord tabulate rotated
+unfolding cases loadOf loadBy loadRefusal wholeOf wholeBy wholeDone wholeRefusal headerTest allZero loadedAt realEntry partOf heardBelow zeroColumn zeroElement allBelow resultByte resultWord R Q wordIn rotationAt schedule columnsRotations stagesRotations columnStages stages survivors upFrom stageRotations scaled saturate oriented orientedPair microRotation microRotations leading sign columnAt rotatedAt stored columnStored rotatedWord tabulate rotated
 marked =
-    (refl, (refl, (refl, (refl, (refl, (refl, (refl, (refl, (refl, (refl, (refl, ((refl, refl), ((refl, refl), ((refl, refl), tt))))))))))))))
+    (refl, (refl, (refl, (refl, (refl, (refl, (refl, (refl, (refl, (refl, (refl, (refl, (refl, ((refl, refl), ((refl, refl), ((refl, refl), ((refl, refl), (refl, (refl, (refl, (refl, (refl, (refl, (refl, (refl, (refl, (refl, (refl, (refl, (refl, (refl, (refl, (refl, (refl, (refl, ((refl, refl), ((refl, refl), ((refl, refl), ((refl, refl), tt)))))))))))))))))))))))))))))))))))))))

@@ -1,15 +1,17 @@
 -- Demand 2: each finished result written as a record reads back to itself, and each accepted record is written again byte for byte.
 -- Assumes nothing.
-use mathlib.Core.Path.{_≡_}
-use mathlib.Core.List.{List, _++_}
+use mathlib.Core.Path.{_≡_, refl}
+use mathlib.Core.List.{List, _∷_, _++_}
 use Prim.Native.Nat.{ℕ, _≤_, _<_}
 use lib.IntN.{ℤ, pos}
-use lib.ListN.{length, getD, take, drop}
+use lib.ListN.{length, getD, take, drop, replicate}
 use mir.Syntax.{w32}
 use mir.Val.{SFits}
-use Rattle.result_record.specs.ResultRecord.{resultBytes}
+use Rattle.lists.specs.Lists.{allBelow}
+use Rattle.refusals.specs.Refusals.{headerTest}
+use Rattle.result_record.specs.ResultRecord.{resultBytes, recordWord, recordR, isFinishedAt, isFinished}
 use Rattle.schedule.specs.Schedule.{rotationCount}
-use Rattle.workspace.specs.Workspace.{workspaceWords}
+use Rattle.workspace.specs.Workspace.{workspaceWords, wordIn, R}
 use Rattle.engine.specs.Fetch.{fetchRefusal, fetchOf}
 use Rattle.engine.specs.Read.{readRefusal, readOf}
 
@@ -30,3 +32,13 @@ FetchThenRead = (turn : ℕ) (l other : List ℤ) (buffer : List ℕ) → Words3
 abbrev pub ReadThenFetch : Type 0
 ReadThenFetch = (rec : List ℕ) (l : List ℤ) (buffer : List ℕ) → Bytes rec → readRefusal rec l ≡ 0 → resultBytes ≤ length buffer
     → fetchOf rotationCount (readOf rec l .workspace) buffer ≡ record { number = 0; buffer = rec ++ drop resultBytes buffer }
+
+-- ---- the premises can be met: a workspace and a record of zeros
+
+pub fetch-possible : fetchRefusal 120 (replicate 512 (pos 0)) (replicate 2049 0) ≡ 0
+unfolding fetchRefusal isFinished isFinishedAt allBelow R wordIn
+fetch-possible = refl
+
+pub read-possible : readRefusal (2 ∷ replicate 2048 0) (replicate 512 (pos 0)) ≡ 0
+unfolding readRefusal headerTest isFinished isFinishedAt allBelow recordR recordWord
+read-possible = refl

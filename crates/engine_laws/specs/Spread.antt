@@ -1,10 +1,12 @@
 -- Demand 2: the turns may be made in one call or spread over many. A Run with budget a and then one with budget b, handed the turn number that the
 -- first answered, leave the same words, answer the same turn number, and in total the same turns made and clamps as one Run with a + b. Where the first
--- is refused, so are the others, by the same number. The turn number and the budgets are any whole numbers, and the words any. Assumes nothing.
+-- is refused, so are the others, by the same number. The same for the budgets of any list. The turn number and the budgets are any whole numbers, and
+-- the words any. Assumes nothing.
 use mathlib.Core.Path.{_≡_}
-use mathlib.Core.List.{List}
+use mathlib.Core.List.{List, [], _∷_}
 use Prim.Native.Nat.{ℕ, _+_}
 use lib.IntN.{ℤ}
+use Rattle.lists.specs.Lists.{sumOf}
 use Rattle.engine.specs.declared.run.RunReply.{RunReply}
 use Rattle.engine.specs.Run.{RunOutcome, runOf}
 
@@ -20,3 +22,13 @@ thenRun o b =
 
 abbrev pub Spread : Type 0
 Spread = (turn a b : ℕ) (workspace : List ℤ) → thenRun (runOf turn a workspace) b ≡ runOf turn (a + b) workspace
+
+-- after an outcome a Run with each budget of a list, one after the other
+unfoldable pub thenRuns : RunOutcome → List ℕ → RunOutcome
+thenRuns o [] = o
+thenRuns o (b ∷ bs) = thenRuns (thenRun o b) bs
+
+-- with a of 0 it is the list alone, since a Run with budget 0 makes no turn
+abbrev pub SpreadList : Type 0
+SpreadList = (turn a : ℕ) (budgets : List ℕ) (workspace : List ℤ)
+    → thenRuns (runOf turn a workspace) budgets ≡ runOf turn (a + sumOf budgets) workspace

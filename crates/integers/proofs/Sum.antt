@@ -9,9 +9,9 @@ use native.Mathlib.Decide.{ℕ-discrete}
 use native.Mathlib.Omega.{arith}
 use lib.Dec.{eqb}
 use borrow.Author.Tests.{eq-eqb, ne-eqb}
-use lib.IntN.{ℤ, pos, natAbs, _+ℤ_, _*ℤ_, +ℤ-assoc, +ℤ-comm, +ℤ-idl, +ℤ-idr, *ℤ-zero}
+use lib.IntN.{ℤ, pos, natAbs, _+ℤ_, +ℤ-assoc, +ℤ-comm, +ℤ-idl, +ℤ-idr}
 use Rattle.integers.specs.Sum.{sum, total}
-use Rattle.integers.proofs.Laws.{swap-right, *ℤ-distl, abs-+}
+use Rattle.integers.proofs.Laws.{swap-right, abs-+}
 
 -- ---- equal terms
 
@@ -24,12 +24,6 @@ pub sum-zero : (n : ℕ) {f : ℕ → ℤ} → ((r : ℕ) → r < n → f r ≡ 
 unfolding sum
 sum-zero zero h = refl
 sum-zero (suc n) {f} h = ap (λ x. x +ℤ f n) (sum-zero n (λ r l. h r (omega arith))) ∙ +ℤ-idl (f n) ∙ h n (le-refl (suc n))
-
--- a common factor comes out
-pub sum-factor : (c : ℤ) (n : ℕ) (f : ℕ → ℤ) → sum n (λ r. c *ℤ f r) ≡ c *ℤ sum n f
-unfolding sum
-sum-factor c zero f = sym (*ℤ-zero c)
-sum-factor c (suc n) f = ap (λ x. x +ℤ c *ℤ f n) (sum-factor c n f) ∙ sym (*ℤ-distl c (sum n f) (f n))
 
 -- ---- a row taken out
 

@@ -1,5 +1,5 @@
 -- Lists by position, and tests on every number below a bound. Assumes nothing.
-use Prim.Native.Nat.{ℕ, zero, suc}
+use Prim.Native.Nat.{ℕ, zero, suc, _+_}
 use mathlib.Core.Bool.{Bool, true, _&&_}
 use mathlib.Core.List.{List, [], _∷_, _++_}
 use lib.ListN.{drop}
@@ -12,6 +12,11 @@ tabulate (suc n) f = f zero ∷ tabulate n (λ k. f (suc k))
 -- xs with its first n elements replaced by f 0, f 1, .., f (n - 1)
 unfoldable pub filled : {A : Type 0} → ℕ → (ℕ → A) → List A → List A
 filled n f xs = tabulate n f ++ drop n xs
+
+-- the sum of a list of numbers
+unfoldable pub sumOf : List ℕ → ℕ
+sumOf [] = 0
+sumOf (n ∷ ns) = n + sumOf ns
 
 -- p holds of every number below n
 unfoldable pub allBelow : ℕ → (ℕ → Bool) → Bool

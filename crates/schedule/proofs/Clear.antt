@@ -105,9 +105,13 @@ clearBelow ds c r = either (less r (suc c)) (cleared ds r c)
 column : List Rotation → ℕ → Claim
 column ds c = both (raised ds c c) (each 16 (clearBelow ds c))
 
-order-finished : Means (each 15 (column (done 120)))
+-- that is so of the columns 0 to 14
+abbrev columnsCleared : Claim
+columnsCleared = each 15 (column (done 120))
+
+order-finished : Means columnsCleared
 unfolding each column clearBelow cleared raised done before schedule columnsRotations stagesRotations columnStages stages survivors upFrom stageRotations
-order-finished = sound (each 15 (column (done 120))) tt
+order-finished = sound columnsCleared tt
 
 pub diagonal-raised : (j : ℕ) → j < 15 → Means (raised (done 120) j j)
 unfolding column

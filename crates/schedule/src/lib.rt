@@ -3,7 +3,7 @@ ghost use mathlib.Core.Path.{_≡_};
 ghost use Prim.Native.Nat.{_<_};
 ghost use Rattle.schedule.specs.Schedule.{rotationCount, schedule, flat, rotationAt};
 
-// A rotation's leading column and its two rows.
+// A rotation (document 01's turn): its leading column and its two rows.
 pub struct Rotation {
     pub column: usize,
     pub upper: usize,

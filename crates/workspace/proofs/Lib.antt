@@ -3,4 +3,5 @@ pub mod Places
 pub mod Products
 pub mod GivensStep
 pub mod RotationsMade
+pub mod SameWords
 pub mod Filled

@@ -9,7 +9,7 @@ use Rattle.integers.specs.Matrix.{Matrix}
 use Rattle.rotation.specs.Column.{rowWords}
 use Rattle.refusals.specs.Refusals.{shortWorkspace, failsIf}
 
--- the words that are worked on; what stands behind them is never touched
+-- the words of a workspace (document 01's work area) that are worked on; what stands behind them is never touched
 abbrev pub workspaceWords : ℕ
 workspaceWords = 512
 

@@ -1,6 +1,6 @@
 //! QR factorization of the 8 by 8 complex matrix that a radio hub's eight antennas heard, by Givens
-//! rotations with CORDIC steps in fixed point. These are safe calls of `libhubqr.a`; the crate has
-//! no dependencies, no state and needs no `std`.
+//! rotations with CORDIC steps in fixed point. These are safe calls of `libhubqr.a`, which is for
+//! x86-64 Linux only; the crate has no dependencies, no state and needs no `std`.
 //!
 //! A **matrix record** has 257 bytes: the kind byte 1, then 64 elements row by row, each a 16-bit
 //! real part and a 16-bit imaginary part, high byte first. They are Q1.15: the whole number a

@@ -1,6 +1,6 @@
 //! `docs/DEMANDS.md`: what the source says, with a link for each name.
+use crate::cited::references;
 use crate::fault::Fault;
-use crate::item::Sort;
 use crate::kind::Kind;
 use crate::source::{Block, Carrier, Sentence};
 use crate::tree::{Found, Tree};
@@ -11,7 +11,6 @@ pub fn page(blocks: &[Block], tree: &Tree) -> Result<String, Vec<Fault>> {
     let mut writer = Writer {
         tree,
         sections: HashSet::new(),
-        cited: HashSet::new(),
         faults: Vec::new(),
     };
     let mut page = String::new();
@@ -25,6 +24,7 @@ pub fn page(blocks: &[Block], tree: &Tree) -> Result<String, Vec<Fault>> {
                 writer.section(*line, id);
                 page += &format!("## {title}\n\n");
             }
+            Block::Offered(..) => {}
             Block::Text(line, lines) => {
                 page += &format!("{}\n\n", writer.text(*line, &lines.join("\n")).trim_end())
             }
@@ -34,7 +34,6 @@ pub fn page(blocks: &[Block], tree: &Tree) -> Result<String, Vec<Fault>> {
             }
         }
     }
-    writer.uncited();
     if writer.faults.is_empty() {
         Ok(format!("{}\n", page.trim_end()))
     } else {
@@ -45,8 +44,6 @@ pub fn page(blocks: &[Block], tree: &Tree) -> Result<String, Vec<Fault>> {
 struct Writer<'a> {
     tree: &'a Tree,
     sections: HashSet<String>,
-    /// the wrong programs that some sentence cites
-    cited: HashSet<Found>,
     faults: Vec<Fault>,
 }
 
@@ -88,7 +85,7 @@ impl Writer<'_> {
                     ),
                 );
             }
-            links.push(link(name, &found));
+            links.push(link(name, &found.path));
         }
         let remark = self.text(carrier.line, &carrier.remark);
         let colon = if links.is_empty() || remark.is_empty() {
@@ -104,77 +101,37 @@ impl Writer<'_> {
     }
 
     fn find(&mut self, line: usize, kind: Kind, name: &str) -> Option<Found> {
-        match self.tree.find(kind, name) {
-            Ok(found) => {
-                if kind == Kind::Wrong {
-                    self.cited.insert(found.clone());
-                }
-                Some(found)
-            }
-            Err(what) => {
-                self.fault(line, format!("{} {what}", kind.letter()));
-                None
-            }
-        }
+        self.tree
+            .find(kind, name)
+            .map_err(|what| self.fault(line, format!("{} {what}", kind.letter())))
+            .ok()
     }
 
     /// A text with its references, `{D name}`, made links.
     fn text(&mut self, line: usize, text: &str) -> String {
         let mut out = String::new();
-        let mut rest = text;
-        while let Some(at) = rest.find('{') {
-            let line = line + text[..text.len() - rest.len() + at].matches('\n').count();
-            out += &rest[..at];
-            rest = &rest[at..];
-            let end = rest.find('}').map_or(rest.len(), |end| end + 1);
-            match reference(&rest[..end]) {
-                Some((kind, name)) => {
-                    if let Some(found) = self.find(line, kind, name) {
-                        out += &link(name, &found);
-                    }
-                    rest = &rest[end..];
-                }
-                None => {
-                    out.push('{');
-                    rest = &rest[1..];
-                }
+        let mut at = 0;
+        for (range, kind, name) in references(text) {
+            let line = line + text[..range.start].matches('\n').count();
+            out += &text[at..range.start];
+            at = range.end;
+            if let Some(found) = self.find(line, kind, name) {
+                out += &link(name, &found.path);
             }
         }
-        out + rest
-    }
-
-    /// Every wrong program of the tree stands on the page.
-    fn uncited(&mut self) {
-        let tree = self.tree;
-        for item in tree.items().iter().filter(|item| item.sort == Sort::Wrong) {
-            if !self.cited.contains(&Found::of(item)) {
-                let what = format!(
-                    "no sentence cites the wrong program {} ({}): add it, in the last section \
-                     if no sentence is about it",
-                    item.name, item.path
-                );
-                self.fault(0, what);
-            }
-        }
+        out + &text[at..]
     }
 }
 
-/// `{D name}` taken apart.
-fn reference(text: &str) -> Option<(Kind, &str)> {
-    let (letter, name) = text.strip_prefix('{')?.strip_suffix('}')?.split_once(' ')?;
-    let mut letters = letter.chars();
-    let kind = Kind::of(letters.next()?).filter(|kind| *kind != Kind::None)?;
-    (letters.next().is_none() && !name.is_empty() && !name.contains(' ')).then_some((kind, name))
-}
-
-fn link(name: &str, found: &Found) -> String {
-    format!("[`{name}`](../{})", found.path)
+/// A link from a page in docs/ to a file of the tree.
+pub fn link(name: &str, path: &str) -> String {
+    format!("[`{name}`](../{path})")
 }
 
 #[cfg(test)]
 mod tests {
     use super::*;
-    use crate::item::Item;
+    use crate::item::{Item, Sort};
     use crate::source;
     use std::path::Path;
 
@@ -237,7 +194,6 @@ By [`loadOf`](../crates/a/specs/L.antt) {x}.
             "5: C load stands twice",
             "7: D no is nowhere",
             "9: another section has the id D1",
-            "0: no sentence cites the wrong program early",
         ];
         for (fault, start) in faults.iter().zip(expected) {
             assert!(fault.starts_with(start), "{fault}");

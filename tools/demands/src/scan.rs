@@ -1,33 +1,38 @@
 //! Collects everything in the tree that a carrier may name.
 use crate::item::{Item, Sort};
+use std::collections::BTreeMap;
 use std::fs;
 use std::io;
 use std::path::Path;
 
-mod antt;
-mod outside;
-mod rattle;
+pub mod antt;
+pub mod outside;
+pub mod rattle;
 
 /// What is built, and what is no part of the tree.
 const SKIPPED: [&str; 3] = ["build", "target", ".git"];
 
-/// The files that are read.
-const ENDS: [&str; 7] = ["antt", "rt", "edit", "rs", "c", "cpp", "h"];
+/// The files of the tree by their paths from the top. What is no text is read as one all the same.
+pub type Texts = BTreeMap<String, String>;
 
 /// A name of a file: the records and types around it, the name, and its sort.
 type Named = (Vec<String>, String, Sort);
 
-/// The named things below a folder.
-pub fn items(top: &Path) -> io::Result<Vec<Item>> {
-    let mut found = Vec::new();
+/// The files below a folder.
+pub fn texts(top: &Path) -> io::Result<Texts> {
+    let mut found = Texts::new();
     for path in files(top, "")? {
-        if ENDS.contains(&end(&path)) {
-            let bytes = fs::read(top.join(&path))
-                .map_err(|error| io::Error::new(error.kind(), format!("{path}: {error}")))?;
-            found.extend(items_of(&path, &String::from_utf8_lossy(&bytes)));
-        }
+        let bytes = fs::read(top.join(&path))
+            .map_err(|error| io::Error::new(error.kind(), format!("{path}: {error}")))?;
+        found.insert(path, String::from_utf8_lossy(&bytes).into_owned());
     }
     Ok(found)
+}
+
+/// The named things of the tree.
+pub fn items(texts: &Texts) -> Vec<Item> {
+    let of = |(path, text): (&String, &String)| items_of(path, text);
+    texts.iter().flat_map(of).collect()
 }
 
 /// The files below a folder by their paths from the top, in order.
@@ -50,12 +55,13 @@ fn files(top: &Path, folder: &str) -> io::Result<Vec<String>> {
     Ok(found)
 }
 
-fn end(path: &str) -> &str {
+/// What a path ends with after its last point.
+pub fn end(path: &str) -> &str {
     path.rsplit_once('.').map_or("", |(_, end)| end)
 }
 
 /// The named things of one file.
-fn items_of(path: &str, text: &str) -> Vec<Item> {
+pub fn items_of(path: &str, text: &str) -> Vec<Item> {
     let outer = within(path);
     let item = |(of, name, sort): Named| Item {
         name,
@@ -86,7 +92,7 @@ fn plain(names: Vec<String>, sort: Sort) -> Vec<Named> {
 }
 
 /// What the items of a file stand in: the crate, the folders and the file.
-fn within(path: &str) -> Vec<String> {
+pub fn within(path: &str) -> Vec<String> {
     let path = path.strip_prefix("crates/").unwrap_or(path);
     let path = path.rsplit_once('.').map_or(path, |(stem, _)| stem);
     path.split('/').map(String::from).collect()

@@ -1,6 +1,8 @@
 //! `docs/demands.txt`: sections, and in each the sentences with their carriers.
 //!
 //! ```text
+//! @offered load run              the calls offered to others
+//!
 //! == D1 Demand 1                 a section: what its sentences' ids begin with, and its title
 //!
 //! Any other text is Markdown. {D loadOf} in it becomes a link to that definition.
@@ -22,6 +24,8 @@ pub enum Block {
         id: String,
         title: String,
     },
+    /// calls that are offered to others, and the line that names them
+    Offered(usize, Vec<String>),
     /// lines of Markdown, with the number of the first
     Text(usize, Vec<String>),
     Sentence(Sentence),
@@ -51,7 +55,13 @@ pub fn parse(text: &str) -> Result<Vec<Block>, Vec<Fault>> {
         if text.starts_with('%') {
             continue;
         }
-        if let Some(title) = text.strip_prefix("== ") {
+        if let Some(words) = text.strip_prefix('@') {
+            in_sentence = false;
+            match offered(words) {
+                Ok(names) => blocks.push(Block::Offered(line, names)),
+                Err(what) => faults.push(Fault { line, what }),
+            }
+        } else if let Some(title) = text.strip_prefix("== ") {
             in_sentence = false;
             blocks.push(section(line, title.trim()));
         } else if let Some(sentence) = text.strip_prefix("> ") {
@@ -70,6 +80,15 @@ pub fn parse(text: &str) -> Result<Vec<Block>, Vec<Fault>> {
         Ok(blocks)
     } else {
         Err(faults)
+    }
+}
+
+/// The names after `@offered`, the one word that may follow an @.
+fn offered(text: &str) -> Result<Vec<String>, String> {
+    let mut words = text.split_whitespace();
+    match words.next() {
+        Some("offered") => Ok(words.map(String::from).collect()),
+        _ => Err("`@offered` is all that may begin with an @".to_string()),
     }
 }
 
@@ -205,5 +224,15 @@ X wrong
             [2, 3, 4]
         );
         assert_eq!(parse("> a\n  more\n").unwrap_err()[0].line, 2);
+    }
+
+    #[test]
+    fn offered_calls() {
+        let names = ["load", "run"].map(String::from).to_vec();
+        assert_eq!(
+            parse("@offered load run\n").unwrap(),
+            [Block::Offered(1, names)]
+        );
+        assert_eq!(parse("@other load\n").unwrap_err()[0].line, 1);
     }
 }

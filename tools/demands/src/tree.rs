@@ -1,4 +1,5 @@
 //! Finds what a name means.
+use crate::documents::declares;
 use crate::item::Item;
 use crate::kind::Kind;
 use std::fs;
@@ -36,10 +37,6 @@ impl Tree {
         }
     }
 
-    pub fn items(&self) -> &[Item] {
-        &self.items
-    }
-
     /// The one thing that a name means as a carrier of this kind, or why there is not one.
     pub fn find(&self, kind: Kind, name: &str) -> Result<Found, String> {
         if kind == Kind::Run && name.contains(['/', ':']) {
@@ -71,17 +68,16 @@ impl Tree {
         }
     }
 
-    /// `path:name`, with the name in that file, or a path alone.
+    /// `path:name`, with the name declared in that file, or a path alone.
     fn find_path(&self, text: &str) -> Result<Found, String> {
         let (path, name) = text.split_once(':').unwrap_or((text, ""));
         let file = self.top.join(path);
         if !file.exists() {
             return Err(format!("there is no {path}"));
         }
-        if !name.is_empty()
-            && !fs::read(&file).is_ok_and(|bytes| stands(name, &String::from_utf8_lossy(&bytes)))
-        {
-            return Err(format!("{path} has no {name}"));
+        let declared = |bytes: Vec<u8>| declares(path, &String::from_utf8_lossy(&bytes), name);
+        if !name.is_empty() && !fs::read(&file).is_ok_and(declared) {
+            return Err(format!("{path} declares no {name}"));
         }
         Ok(Found {
             path: path.to_string(),
@@ -133,16 +129,6 @@ fn listed(items: &[&Item], text: fn(&Item) -> String) -> String {
         0 => few,
         more => format!("{few} and {more} more"),
     }
-}
-
-/// Whether a name stands in a text as a whole one. A name may have letters, digits, _ and -.
-fn stands(name: &str, text: &str) -> bool {
-    let part = |c: char| c.is_alphanumeric() || c == '_' || c == '-';
-    text.match_indices(name).any(|(at, _)| {
-        let before = text[..at].chars().next_back();
-        let after = text[at + name.len()..].chars().next();
-        !before.is_some_and(part) && !after.is_some_and(part)
-    })
 }
 
 /// How many letters are to be changed, added or taken away to make one word of another. Capital
@@ -232,7 +218,7 @@ mod tests {
         );
         assert_eq!(
             tree.find(Kind::Run, "Cargo.toml:deman").unwrap_err(),
-            "Cargo.toml has no deman"
+            "Cargo.toml declares no deman"
         );
     }
 

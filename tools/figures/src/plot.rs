@@ -19,6 +19,8 @@ const GRID: &str = "stroke=\"#e3e7ec\"";
 const LIMIT: &str = "stroke=\"#b3261e\" stroke-width=\"2\"";
 const LIMIT_TEXT: &str = "fill=\"#b3261e\" font-weight=\"bold\" text-anchor=\"end\"";
 const SMALL: &str = "font-size=\"12\" fill=\"#57606a\"";
+/// Names and legends, which have little room in some fonts.
+const NARROW: &str = "font-size=\"13\"";
 
 /// One of the two errors that have a limit.
 struct Figure {
@@ -53,7 +55,7 @@ pub fn draw(samples: &[Sample]) -> String {
         count / 1000,
         count % 1000
     );
-    let mut svg = Svg::new(WIDTH, bottom + 92.0, &title);
+    let mut svg = Svg::new(WIDTH, bottom + 126.0, &title);
     svg.text(
         (24.0, 36.0),
         &title,
@@ -65,7 +67,9 @@ pub fn draw(samples: &[Sample]) -> String {
         draw_row(&mut svg, sample, TOP + ROW * (k as f64 + 0.5));
     }
     draw_limit(&mut svg, bottom);
-    svg.text((24.0, bottom + 76.0), &summary(samples), SMALL);
+    for (k, line) in summary(samples).iter().enumerate() {
+        svg.text((24.0, bottom + 94.0 + 17.0 * k as f64), line, SMALL);
+    }
     svg.finish()
 }
 
@@ -74,10 +78,10 @@ fn draw_legend(svg: &mut Svg) {
         let x = 24.0 + 330.0 * k as f64;
         let fill = format!("fill=\"{}\"", figure.colour);
         svg.rect((x, 53.0), (14.0, 14.0), &fill);
-        svg.text((x + 21.0, 65.0), figure.legend, "");
+        svg.text((x + 21.0, 65.0), figure.legend, NARROW);
     }
     svg.circle((703.0, 60.0), 3.5, "fill=\"#1f2328\"");
-    svg.text((713.0, 65.0), "the largest error of a kind", "");
+    svg.text((713.0, 65.0), "the largest error of a kind", NARROW);
 }
 
 fn draw_axis(svg: &mut Svg, bottom: f64) {
@@ -87,10 +91,16 @@ fn draw_axis(svg: &mut Svg, bottom: f64) {
         let label = format!("2^{octave}");
         svg.text((x, bottom + 22.0), &label, "text-anchor=\"middle\"");
     }
-    let label = "largest error of one matrix, logarithmic (2^43 is one step of the 16-bit input; \
-                 for the rows of Q, 2^60 is one)";
     let middle = (LEFT + RIGHT) / 2.0;
-    svg.text((middle, bottom + 48.0), label, "text-anchor=\"middle\"");
+    for (y, label) in [
+        (48.0, "largest error of one matrix, logarithmic"),
+        (
+            67.0,
+            "(2^43 is one step of the 16-bit input; for the rows of Q, 2^60 is one)",
+        ),
+    ] {
+        svg.text((middle, bottom + y), label, "text-anchor=\"middle\"");
+    }
 }
 
 fn draw_limit(svg: &mut Svg, bottom: f64) {
@@ -102,7 +112,8 @@ fn draw_limit(svg: &mut Svg, bottom: f64) {
 /// One kind: both figures on either side of a line, with a dot at the largest error of each.
 fn draw_row(svg: &mut Svg, sample: &Sample, y: f64) {
     svg.line((LEFT, y), (RIGHT, y), GRID);
-    svg.text((LEFT - 12.0, y + 5.0), sample.name, "text-anchor=\"end\"");
+    let look = format!("{NARROW} text-anchor=\"end\"");
+    svg.text((LEFT - 12.0, y + 5.0), sample.name, &look);
     for figure in &FIGURES {
         let errors: Vec<i128> = sample.errors.iter().map(figure.error).collect();
         let fill = format!("fill=\"{}\"", figure.colour);
@@ -134,16 +145,80 @@ fn place(octave: f64) -> f64 {
     LEFT + (RIGHT - LEFT) * octaves / OCTAVES.len() as f64
 }
 
-fn summary(samples: &[Sample]) -> String {
+/// What the picture says of all samples, in lines that fit its width.
+fn summary(samples: &[Sample]) -> [String; 2] {
     let all = samples.iter().flat_map(|sample| &sample.errors);
     let worst = all.fold(Errors::default(), |worst, &errors| worst.max(errors));
     let share = |error: i128| (BOUND / error.max(1)).to_string();
-    format!(
+    let largest = format!(
         "Largest of all: 2^{:.1} for Q times R (1/{} of the limit), 2^{:.1} for the rows of Q \
-         (1/{} of it). Bar heights are scaled to the fullest bin of each row.",
+         (1/{} of it).",
         octave(worst.product),
         share(worst.product),
         octave(worst.rows),
         share(worst.rows)
-    )
+    );
+    let heights = "Bar heights are scaled to the fullest bin of each row.";
+    [largest, heights.to_string()]
+}
+
+#[cfg(test)]
+mod tests {
+    use super::*;
+    use reference::cases::Kind;
+
+    /// More than a letter of any usual font takes on the average, as a share of the font's size.
+    const LETTER: f64 = 0.62;
+
+    /// The value of an attribute in an element's tag.
+    fn attribute<'a>(tag: &'a str, name: &str) -> Option<&'a str> {
+        let (_, behind) = tag.split_once(&format!(" {name}=\""))?;
+        behind.split('"').next()
+    }
+
+    /// The baseline, the left and the right end of a text, in a wide font.
+    fn extent(tag: &str, content: &str) -> (f64, f64, f64) {
+        let number = |name, other: f64| attribute(tag, name).map_or(other, |n| n.parse().unwrap());
+        let shown = content
+            .split('<')
+            .map(|piece| piece.rsplit('>').next().unwrap());
+        let letters: usize = shown.map(|piece| piece.chars().count()).sum();
+        let width = letters as f64 * LETTER * number("font-size", 14.0);
+        let x = number("x", 0.0);
+        let left = match attribute(tag, "text-anchor") {
+            Some("middle") => x - width / 2.0,
+            Some("end") => x - width,
+            _ => x,
+        };
+        (number("y", 0.0), left, left + width)
+    }
+
+    fn picture() -> String {
+        let sample = |kind: Kind| Sample {
+            name: kind.name(),
+            errors: vec![Errors::default()],
+        };
+        draw(&Kind::ALL.map(sample))
+    }
+
+    #[test]
+    fn texts_stay_in_the_picture_and_apart_in_wide_fonts() {
+        let picture = picture();
+        let texts = picture.split("<text").skip(1).map(|element| {
+            let element = element.split("</text>").next().unwrap();
+            let (tag, content) = element.split_once('>').unwrap();
+            extent(tag, content)
+        });
+        let texts: Vec<(f64, f64, f64)> = texts.collect();
+        assert!(texts.len() > 30);
+        for (y, left, right) in &texts {
+            assert!(*left >= 0.0 && *right <= WIDTH, "{left} to {right} at {y}");
+            let beside = |other: &&(f64, f64, f64)| other.0 == *y && other.1 > *left;
+            let next = texts.iter().filter(beside).map(|other| other.1);
+            assert!(
+                next.fold(WIDTH, f64::min) >= *right,
+                "{left} to {right} at {y}"
+            );
+        }
+    }
 }

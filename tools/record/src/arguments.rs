@@ -8,6 +8,7 @@ use crate::help;
 #[derive(Debug, PartialEq)]
 pub enum Command {
     Help(&'static str),
+    Version,
     Pack { text: OsString, record: OsString },
     Show { file: OsString },
     Check { matrix: OsString, result: OsString },
@@ -19,17 +20,20 @@ impl Command {
         let name = arguments
             .next()
             .ok_or_else(|| Failure::Usage("no command given".into()))?;
-        let rest: Vec<OsString> = arguments.collect();
-        let wants_help = rest.iter().any(|argument| is_help(argument));
+        let rest = Arguments::sort(arguments);
+        let wants_help = rest.options.iter().any(|option| is_help(option));
         match name.to_str() {
             _ if is_help(&name) => Ok(Command::Help(help::ALL)),
+            Some("--version") => Ok(Command::Version),
             Some("pack") if wants_help => Ok(Command::Help(help::PACK)),
             Some("show") if wants_help => Ok(Command::Help(help::SHOW)),
             Some("check") if wants_help => Ok(Command::Help(help::CHECK)),
-            Some("pack") => files(rest, "pack IN.txt OUT.bin")
+            Some("pack") => rest
+                .files("pack IN.txt OUT.bin")
                 .map(|[text, record]| Command::Pack { text, record }),
-            Some("show") => files(rest, "show FILE").map(|[file]| Command::Show { file }),
-            Some("check") => files(rest, "check MATRIX RESULT")
+            Some("show") => rest.files("show FILE").map(|[file]| Command::Show { file }),
+            Some("check") => rest
+                .files("check MATRIX RESULT")
                 .map(|[matrix, result]| Command::Check { matrix, result }),
             _ => Err(Failure::Usage(format!("unknown command {}", quoted(&name)))),
         }
@@ -44,23 +48,37 @@ fn quoted(argument: &OsStr) -> String {
     format!("'{}'", argument.to_string_lossy())
 }
 
-/// The N file names that a command takes, and no option.
-fn files<const N: usize>(rest: Vec<OsString>, usage: &str) -> Result<[OsString; N], Failure> {
-    let is_option = |argument: &&OsString| {
-        let bytes = argument.as_encoded_bytes();
-        bytes.len() > 1 && bytes[0] == b'-'
-    };
-    if let Some(option) = rest.iter().find(is_option) {
-        let message = format!("unknown option {}; usage: record {usage}", quoted(option));
-        return Err(Failure::Usage(message));
+/// What stands behind a command. Behind `--` everything is a file name, also what begins with '-'.
+struct Arguments {
+    options: Vec<OsString>,
+    files: Vec<OsString>,
+}
+
+impl Arguments {
+    fn sort(mut given: impl Iterator<Item = OsString>) -> Arguments {
+        let before: Vec<OsString> = given.by_ref().take_while(|one| one != "--").collect();
+        let (options, mut files): (Vec<_>, Vec<_>) = before.into_iter().partition(|argument| {
+            let bytes = argument.as_encoded_bytes();
+            bytes.len() > 1 && bytes[0] == b'-'
+        });
+        files.extend(given);
+        Arguments { options, files }
     }
-    let given = rest.len();
-    rest.try_into().map_err(|_| {
-        let names = if N == 1 { "file name" } else { "file names" };
-        Failure::Usage(format!(
-            "{N} {names} needed, {given} given; usage: record {usage}"
-        ))
-    })
+
+    /// The N file names that a command takes, and no option.
+    fn files<const N: usize>(self, usage: &str) -> Result<[OsString; N], Failure> {
+        if let Some(option) = self.options.first() {
+            let message = format!("unknown option {}; usage: record {usage}", quoted(option));
+            return Err(Failure::Usage(message));
+        }
+        let given = self.files.len();
+        self.files.try_into().map_err(|_| {
+            let names = if N == 1 { "file name" } else { "file names" };
+            Failure::Usage(format!(
+                "{N} {names} needed, {given} given; usage: record {usage}"
+            ))
+        })
+    }
 }
 
 #[cfg(test)]
@@ -80,6 +98,26 @@ mod tests {
             result: "r".into(),
         };
         assert_eq!(parse(&["check", "m", "r"]).unwrap(), check);
+    }
+
+    #[test]
+    fn names_behind_two_dashes_may_begin_with_one() {
+        let show = |file: &str| Command::Show { file: file.into() };
+        assert_eq!(parse(&["show", "--", "-h"]).unwrap(), show("-h"));
+        assert_eq!(parse(&["show", "--", "--"]).unwrap(), show("--"));
+        assert_eq!(parse(&["show", "a", "--"]).unwrap(), show("a"));
+        let check = Command::Check {
+            matrix: "a".into(),
+            result: "-b".into(),
+        };
+        assert_eq!(parse(&["check", "a", "--", "-b"]).unwrap(), check);
+        assert!(parse(&["show", "-x", "--", "a"]).is_err());
+    }
+
+    #[test]
+    fn the_version_is_asked_for_in_place_of_a_command() {
+        assert_eq!(parse(&["--version"]).unwrap(), Command::Version);
+        assert!(parse(&["show", "--version"]).is_err());
     }
 
     #[test]

@@ -32,7 +32,7 @@ pub fn check(matrix: &OsStr, result: &OsStr) -> Result<Report, Failure> {
         other => return Err(wrong_record(matrix, &other, "a matrix record")),
     };
     let (text, in_order) = figures_text(&matrix, &factors);
-    Ok(Report::new(text, in_order))
+    Ok(Report::text(text, in_order))
 }
 
 fn wrong_record(file: &OsStr, found: &Record, wanted: &str) -> Failure {
@@ -101,7 +101,7 @@ fn verdict(within: bool) -> &'static str {
 }
 
 fn line(name: &str, figure: &str, place: &str, share: &str, verdict: &str) -> String {
-    let text = format!("{name:<42}{figure:>22}   {place:<8}{share:>18}   {verdict}");
+    let text = format!("{name:<41}{figure:>20}   {place:<8}{share:>17}   {verdict}");
     text.trim_end().to_string() + "\n"
 }
 

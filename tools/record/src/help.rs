@@ -1,5 +1,7 @@
 //! What `--help` prints, for the program and for each command.
 
+pub const VERSION: &str = concat!("record ", env!("CARGO_PKG_VERSION"), "\n");
+
 pub const ALL: &str = "\
 Makes, shows and checks the records of the eight-antenna QR engine.
 
@@ -8,25 +10,29 @@ Usage:
   record show FILE               prints a matrix, result or refusal record
   record check MATRIX RESULT     computes the errors of a result and shows them against their limits
   record COMMAND --help          says more about a command
+  record --version               prints the version
 
-A file name '-' stands for standard input, and as OUT.bin for standard output.
+A file name '-' stands for standard input, and as OUT.bin for standard output. Behind '--' a file name
+may begin with '-'.
 
-Exit status: 0 when all is in order, 1 when a file is wrong or a limit is passed, 2 when the command
-line is wrong.
+Exit status: 0 when all is in order, 1 when a file is wrong, a limit is passed or the output could not
+be written, 2 when the command line is wrong.
 ";
 
 pub const PACK: &str = "\
 Usage: record pack IN.txt OUT.bin
 
-Makes a matrix record of 257 bytes from a text of 8 lines of 8 complex numbers with blanks between
-them. Row r of the matrix is line r, column k belongs to antenna k. What follows a '#' is a remark;
-empty lines are skipped.
+Makes a matrix record of 257 bytes from a text of 8 lines of 8 complex numbers with blanks or commas
+between them. Row r of the matrix is line r, column k belongs to antenna k. What follows a '#' is a
+remark; empty lines are skipped, and a line that ends in '\\' goes on in the next one.
 
-A number is a real part, an imaginary part that ends in i or j, or both without blanks: 12, -5i,
--123+45i. The parts of a file are of one kind; zero fits both:
+A number is a real part, an imaginary part that ends in i or j, or both: 12, -5i, -123+45i. It may
+stand in brackets, and blanks then too: (1 + 2i). The parts of a file are of one kind; zero fits both:
   whole numbers       units of 1/32768, from -32768 to 32767, as in -123+45i
-  decimal fractions   parts of one, as in 0.5-0.25i; times 32768 and rounded to the nearest whole
-                      number (halves away from zero) they go from -32768 to 32767
+  decimal fractions   parts of one, from -1 to 32767/32768, with a point or an exponent, as in
+                      0.5-0.25i or 5e-1-2.5e-1j; times 32768 they are rounded to the nearest whole
+                      number, halves away from zero
+A matrix with larger numbers has to be divided by one that brings all of them into this range.
 
 OUT.bin is a new file or an existing one, which keeps its permissions. A link, a device or a folder is
 refused, and so are a read-only file and IN.txt itself. For standard output give '-'.
@@ -38,10 +44,11 @@ pub const SHOW: &str = "\
 Usage: record show FILE
 
 Prints a record readably. The kind byte says what it is:
-  matrix record    the elements in units of 1/32768 and the antennas that were heard. 'record pack'
-                   makes the same record of this text.
+  matrix record    the elements in units of 1/32768 and the antennas that were heard; a row has two
+                   lines. 'record pack' makes the same record of this text.
   result record    R in steps of the 16-bit input (word / 2^13) and Q in parts of one (word / 2^30),
-                   16 by 16 each; a word that is 0 is printed as a bare 0.
+                   16 by 16 each, eight columns beside each other; a word that is 0 is printed as a
+                   bare 0.
   refusal record   the refusal number and what it means.
 
 A matrix or result that the engine refuses is printed with the reason, and the exit status is 1.

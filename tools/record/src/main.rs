@@ -2,6 +2,8 @@
 mod arguments;
 mod check;
 mod complex;
+mod decimal;
+mod entries;
 mod factors;
 mod failure;
 mod files;
@@ -11,29 +13,46 @@ mod pack;
 mod records;
 mod refusal;
 mod show;
+mod standard_output;
 mod text;
 
 use std::env;
-use std::io::{self, ErrorKind, Write};
+use std::io::{self, Write};
 use std::process::ExitCode;
 
 use arguments::Command;
 use failure::Failure;
 
-/// What a command has to say: bytes for standard output, a remark for standard error, and whether
-/// what it looked at is in order.
+/// What a command has for standard output.
+pub enum Output {
+    /// For people, who may stop reading where they like.
+    Text(String),
+    /// A record, which is worth nothing unless all of it arrives.
+    Record(Vec<u8>),
+}
+
+/// What a command has to say: its output, a remark for standard error, and whether what it looked at
+/// is in order.
 pub struct Report {
-    pub output: Vec<u8>,
+    pub output: Output,
     pub remark: Option<String>,
     pub in_order: bool,
 }
 
 impl Report {
-    pub fn new(text: impl Into<Vec<u8>>, in_order: bool) -> Report {
+    pub fn text(text: impl Into<String>, in_order: bool) -> Report {
         Report {
-            output: text.into(),
+            output: Output::Text(text.into()),
             remark: None,
             in_order,
+        }
+    }
+
+    pub fn record(bytes: Vec<u8>) -> Report {
+        Report {
+            output: Output::Record(bytes),
+            remark: None,
+            in_order: true,
         }
     }
 }
@@ -44,7 +63,7 @@ fn main() -> ExitCode {
         Ok(true) => ExitCode::SUCCESS,
         Ok(false) => ExitCode::from(1),
         Err(failure) => {
-            eprintln!("record: {failure}");
+            say(&failure.to_string());
             ExitCode::from(failure.status())
         }
     }
@@ -52,27 +71,24 @@ fn main() -> ExitCode {
 
 fn perform(command: Command) -> Result<Report, Failure> {
     match command {
-        Command::Help(text) => Ok(Report::new(text, true)),
+        Command::Help(text) => Ok(Report::text(text, true)),
+        Command::Version => Ok(Report::text(help::VERSION, true)),
         Command::Pack { text, record } => pack::pack(&text, &record),
         Command::Show { file } => show::show(&file),
         Command::Check { matrix, result } => check::check(&matrix, &result),
     }
 }
 
-/// Writes the report. A reader that stopped early, as `head` does, is no failure.
+/// Writes the report, and answers whether all is in order.
 fn deliver(report: Report) -> Result<bool, Failure> {
-    let mut stdout = io::stdout().lock();
-    let written = stdout
-        .write_all(&report.output)
-        .and_then(|()| stdout.flush());
-    match written {
-        Err(error) if error.kind() != ErrorKind::BrokenPipe => {
-            return Err(Failure::Input(format!("standard output: {error}")));
-        }
-        _ => {}
-    }
+    let arrived = standard_output::write(&report.output)?;
     if let Some(remark) = report.remark {
-        eprintln!("record: {remark}");
+        say(&remark);
     }
-    Ok(report.in_order)
+    Ok(arrived && report.in_order)
+}
+
+/// Writes a line to standard error. Where that fails there is nobody left to tell.
+fn say(message: &str) {
+    let _ = writeln!(io::stderr(), "record: {message}");
 }

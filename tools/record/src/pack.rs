@@ -17,12 +17,12 @@ pub fn pack(input: &OsStr, output: &OsStr) -> Result<Report, Failure> {
         .and_then(|content| text::parse(&content).map_err(|fault| named(input, fault)))?;
     let record = matrix.to_record();
     let mut report = if files::is_standard(output) {
-        Report::new(record, true)
+        Report::record(record)
     } else if !files::is_standard(input) && files::same_file(input, output) {
         return Err(named(output, "the input and the output are the same file"));
     } else {
         files::replace(output, &record)?;
-        Report::new(confirmation(output, &matrix), true)
+        Report::text(confirmation(output, &matrix), true)
     };
     if matrix.is_zero() {
         report.remark = Some(refused_with(Refusal::AllZero));

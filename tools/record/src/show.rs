@@ -12,15 +12,15 @@ use crate::{files, Report};
 
 pub fn show(file: &OsStr) -> Result<Report, Failure> {
     match Record::read(file)? {
-        Record::Matrix(matrix) => Ok(Report::new(matrix_text(&matrix), !matrix.is_zero())),
+        Record::Matrix(matrix) => Ok(Report::text(matrix_text(&matrix), !matrix.is_zero())),
         Record::Result(factors) => {
             let in_order = factors.rule_breaks().first().is_none();
-            Ok(Report::new(result_text(&factors), in_order))
+            Ok(Report::text(result_text(&factors), in_order))
         }
         Record::Refusal(number) => match Refusal::try_from(number) {
             Ok(refusal) => {
                 let text = format!("refusal record, number {number}: {refusal}\n");
-                Ok(Report::new(text, true))
+                Ok(Report::text(text, true))
             }
             Err(_) => {
                 let file = files::shown(file);
@@ -46,7 +46,8 @@ pub fn antennas(heard: u8) -> String {
     format!("heard antennas: {heard_list} (heard byte {heard:02X}), silent: {silent_list}")
 }
 
-/// Everything but the elements stands behind '#', so that the text can be packed again.
+/// Everything but the elements stands behind '#', so that the text can be packed again. Eight
+/// elements of five digits would not fit into a line of 100 columns, so a row has two lines.
 fn matrix_text(matrix: &Matrix) -> String {
     let mut text = format!(
         "# matrix record: 8 by 8 elements in units of 1/32768, a column for each antenna\n# {}\n",
@@ -56,8 +57,10 @@ fn matrix_text(matrix: &Matrix) -> String {
         text += &format!("# {}\n", refused_with(Refusal::AllZero));
     }
     for (i, row) in matrix.rows.iter().enumerate() {
-        let elements = row.map(element_text).concat();
-        text += &format!("{elements}  # row {i}\n");
+        let elements = row.map(element_text);
+        let (left, right) = elements.split_at(elements.len() / 2);
+        text += &format!("{}  \\  # row {i}, antennas 0 to 3\n", left.concat());
+        text += &format!("{}     # row {i}, antennas 4 to 7\n", right.concat());
     }
     text
 }
@@ -76,32 +79,48 @@ fn result_text(factors: &Factors) -> String {
             format!("word ({i}, {j}) of R is {word}: {why}")
         }
     };
-    let r = words_text(&factors.r, 13, 2);
-    let q = words_text(&factors.q, 30, 5);
-    format!(
-        "result record: {verdict}\n\n\
-         R in steps of the 16-bit input (word / 2^13)\n{r}\n\
-         Q in parts of one (word / 2^30)\n{q}"
-    )
+    let r = words_text(
+        "R in steps of the 16-bit input (word / 2^13)",
+        &factors.r,
+        13,
+        2,
+    );
+    let q = words_text("Q in parts of one (word / 2^30)", &factors.q, 30, 5);
+    format!("result record: {verdict}\n{r}{q}")
 }
 
-/// A matrix as decimals of words / 2^`shift`. A word that is 0 is a bare 0, so that it differs from
-/// one that only rounds to 0.
-fn words_text(words: &Words, shift: u32, decimals: usize) -> String {
-    let scale = f64::from(1 << shift);
-    let decimal = |word: i32| match word {
-        0 => "0".to_string(),
-        _ => format!("{:.decimals$}", f64::from(word) / scale),
-    };
-    let cells = words.map(|row| row.map(decimal));
+/// Columns that stand beside each other: as many words of R as fit into 100 columns of text.
+const BESIDE: usize = 8;
+
+/// A matrix as decimals of words / 2^`shift`, in blocks of eight columns under the name.
+fn words_text(name: &str, words: &Words, shift: u32, decimals: usize) -> String {
+    let cells = words.map(|row| row.map(|word| decimal(word, shift, decimals)));
     let width = cells.iter().flatten().map(String::len).max().unwrap_or(0) + 1;
-    let line = |label: String, row: [String; SIZE]| {
-        let aligned = row.map(|cell| format!("{cell:>width$}")).concat();
-        format!("{label:>3}{aligned}\n")
-    };
-    let mut text = line(String::new(), std::array::from_fn(|j| j.to_string()));
-    for (i, row) in cells.into_iter().enumerate() {
-        text += &line(i.to_string(), row);
+    let aligned = |cell: &String| format!("{cell:>width$}");
+    let mut text = String::new();
+    for first in (0..SIZE).step_by(BESIDE) {
+        let columns = first..first + BESIDE;
+        let (start, end) = (columns.start, columns.end - 1);
+        let numbers = columns.clone().map(|j| aligned(&j.to_string()));
+        let heading = numbers.collect::<String>();
+        text += &format!("\n{name}, columns {start} to {end}\n   {heading}\n");
+        for (i, row) in cells.iter().enumerate() {
+            let row: String = row[columns.clone()].iter().map(aligned).collect();
+            text += &format!("{i:>3}{row}\n");
+        }
     }
     text
+}
+
+/// A word that is 0 is a bare 0, so that it differs from one that only rounds to 0, which has no sign.
+fn decimal(word: i32, shift: u32, decimals: usize) -> String {
+    if word == 0 {
+        return "0".to_string();
+    }
+    let text = format!("{:.decimals$}", f64::from(word) / f64::from(1 << shift));
+    let rounds_to_zero = !text.bytes().any(|byte| (b'1'..=b'9').contains(&byte));
+    match text.strip_prefix('-') {
+        Some(unsigned) if rounds_to_zero => unsigned.to_string(),
+        _ => text,
+    }
 }

@@ -1,7 +1,9 @@
-//! The text of a matrix: 8 lines of 8 complex numbers, with remarks behind '#'.
+//! The text of a matrix: 8 rows of 8 complex numbers, with remarks behind '#'.
 use std::fmt::{self, Display, Formatter};
 
-use crate::complex::{self, Part, Style};
+use crate::complex::{self, Part};
+use crate::decimal::Style;
+use crate::entries::{entries, Entry};
 use crate::matrix::{Element, Matrix, SIZE};
 
 /// What is wrong with a text, and where. Lines and columns count from 1, as editors count them.
@@ -23,31 +25,6 @@ impl Display for Fault {
     }
 }
 
-/// The matrix that a text describes.
-pub fn parse(text: &str) -> Result<Matrix, Fault> {
-    let mut rows = Vec::new();
-    let mut style = StyleOfFile::default();
-    let mut lines = 0;
-    for (index, line) in text.lines().enumerate() {
-        lines = index + 1;
-        let numbers = line.split('#').next().unwrap_or_default();
-        let Some((column, _)) = tokens(numbers).next() else {
-            continue;
-        };
-        if rows.len() == SIZE {
-            let message = format!("a ninth row of numbers, a matrix has {SIZE}");
-            return Err(fault(lines, column, message));
-        }
-        rows.push(parse_row(numbers, lines, rows.len(), &mut style)?);
-    }
-    let count = rows.len();
-    let rows: [[Element; SIZE]; SIZE] = rows.try_into().map_err(|_| {
-        let message = format!("the text ends after {count} rows of numbers, {SIZE} are needed");
-        fault(lines.max(1), 1, message)
-    })?;
-    Ok(Matrix { rows })
-}
-
 fn fault(line: usize, column: usize, message: String) -> Fault {
     Fault {
         line,
@@ -56,41 +33,92 @@ fn fault(line: usize, column: usize, message: String) -> Fault {
     }
 }
 
-fn parse_row(
-    numbers: &str,
-    line: usize,
-    row: usize,
-    style: &mut StyleOfFile,
-) -> Result<[Element; SIZE], Fault> {
-    let mut elements = Vec::new();
-    let mut end = 1;
-    for (column, token) in tokens(numbers) {
-        if elements.len() == SIZE {
-            let message = format!("a ninth number in row {row}, a row has {SIZE}");
-            return Err(fault(line, column, message));
-        }
-        let parts = complex::parse(token)
-            .map_err(|wrong| fault(line, column + wrong.offset, wrong.message))?;
-        for part in parts {
-            style.agree(part, line, column)?;
-        }
-        let [real, imaginary] = parts.map(|part| part.units);
-        elements.push(Element { real, imaginary });
-        end = column + token.chars().count();
+/// The matrix that a text describes. Some editors begin a text with a byte-order mark.
+pub fn parse(text: &str) -> Result<Matrix, Fault> {
+    let text = text.strip_prefix('\u{feff}').unwrap_or(text);
+    let mut reader = Reader::default();
+    for line in text.lines() {
+        reader.line += 1;
+        reader.read_line(line)?;
     }
-    let count = elements.len();
-    elements.try_into().map_err(|_| {
-        let message = format!("row {row} ends after {count} numbers, {SIZE} are needed");
-        fault(line, end, message)
-    })
+    reader.finish()
 }
 
-/// The words of a line, each with its column.
-fn tokens(line: &str) -> impl Iterator<Item = (usize, &str)> {
-    line.split_whitespace().map(move |token| {
-        let before = token.as_ptr() as usize - line.as_ptr() as usize;
-        (line[..before].chars().count() + 1, token)
-    })
+/// What has been read of a text.
+#[derive(Default)]
+struct Reader {
+    rows: Vec<[Element; SIZE]>,
+    /// The row that is being read: a line that ends in '\' leaves it open.
+    row: Vec<Element>,
+    style: StyleOfFile,
+    line: usize,
+}
+
+impl Reader {
+    fn read_line(&mut self, line: &str) -> Result<(), Fault> {
+        let numbers = line.split('#').next().unwrap_or_default().trim_end();
+        let (numbers, goes_on) = match numbers.strip_suffix('\\') {
+            Some(numbers) => (numbers, true),
+            None => (numbers, false),
+        };
+        let entries = entries(numbers).map_err(|column| {
+            let message = "a number expected, found ','".to_string();
+            fault(self.line, column, message)
+        })?;
+        let is_blank = entries.is_empty() && self.row.is_empty();
+        for entry in entries {
+            self.read_entry(entry)?;
+        }
+        if goes_on || is_blank {
+            return Ok(());
+        }
+        self.end_row(numbers.chars().count() + 1)
+    }
+
+    fn read_entry(&mut self, Entry { column, token }: Entry) -> Result<(), Fault> {
+        let row = self.rows.len();
+        let one_too_many = if row == SIZE {
+            Some(format!("a ninth row of numbers, a matrix has {SIZE}"))
+        } else if self.row.len() == SIZE {
+            Some(format!("a ninth number in row {row}, a row has {SIZE}"))
+        } else {
+            None
+        };
+        if let Some(message) = one_too_many {
+            return Err(fault(self.line, column, message));
+        }
+        let parts = complex::parse(token)
+            .map_err(|wrong| fault(self.line, column + wrong.offset, wrong.message))?;
+        for part in parts {
+            self.style.agree(part, self.line, column)?;
+        }
+        let [real, imaginary] = parts.map(|part| part.units);
+        self.row.push(Element { real, imaginary });
+        Ok(())
+    }
+
+    fn end_row(&mut self, column: usize) -> Result<(), Fault> {
+        let (row, count) = (self.rows.len(), self.row.len());
+        let elements = std::mem::take(&mut self.row);
+        let elements = elements.try_into().map_err(|_| {
+            let message = format!("row {row} ends after {count} numbers, {SIZE} are needed");
+            fault(self.line, column, message)
+        })?;
+        self.rows.push(elements);
+        Ok(())
+    }
+
+    fn finish(mut self) -> Result<Matrix, Fault> {
+        if !self.row.is_empty() {
+            self.end_row(1)?;
+        }
+        let (count, line) = (self.rows.len(), self.line.max(1));
+        let rows = self.rows.try_into().map_err(|_| {
+            let message = format!("the text ends after {count} rows of numbers, {SIZE} are needed");
+            fault(line, 1, message)
+        })?;
+        Ok(Matrix { rows })
+    }
 }
 
 /// The style that the numbers of a file have in common: a 1 between fractions would be taken for
@@ -135,6 +163,41 @@ mod tests {
         lines.join("\n")
     }
 
+    #[test]
+    fn a_row_may_go_on_in_the_next_line() {
+        let text = with_row("1", "1 2 3 \\ # row 2\n4,5, \\\n 6 7 8");
+        let matrix = parse(&text).unwrap();
+        assert_eq!(matrix.rows[2].map(|e| e.real), [1, 2, 3, 4, 5, 6, 7, 8]);
+        for (row, expected) in [
+            (
+                "1 1 1 \\\n1 1 1 1",
+                "line 4, column 8: row 2 ends after 7 numbers, 8 are needed",
+            ),
+            (
+                "1 1 1 \\\n\n1 1 1 1 1",
+                "line 4, column 1: row 2 ends after 3 numbers, 8 are needed",
+            ),
+            (
+                "1 1 1 \\\n1 1 1 1 1 1",
+                "line 4, column 11: a ninth number in row 2, a row has 8",
+            ),
+        ] {
+            assert_eq!(message(&with_row("1", row)), expected);
+        }
+        let open = "1 1 1 1 1 1 1 1 \n".repeat(7) + "1 1 \\";
+        let expected = "line 8, column 1: row 7 ends after 2 numbers, 8 are needed";
+        assert_eq!(message(&open), expected);
+    }
+
+    #[test]
+    fn a_byte_order_mark_is_no_number() {
+        let text = with_row("1", "1,1,1,1 , 1, 1 ,1,1");
+        assert!(parse(&format!("\u{feff}{text}")).is_ok());
+        let later = with_row("1", "\u{feff}1 1 1 1 1 1 1 1");
+        let expected = "line 3, column 1: a digit expected, found '\\u{feff}'";
+        assert_eq!(message(&later), expected);
+    }
+
     fn message(text: &str) -> String {
         parse(text).unwrap_err().to_string()
     }
@@ -167,6 +230,18 @@ mod tests {
             (
                 "1 1 5+x 1 1 1 1 1",
                 "line 3, column 7: a digit expected, found 'x'",
+            ),
+            (
+                "1,1,,1,1,1,1,1",
+                "line 3, column 5: a number expected, found ','",
+            ),
+            (
+                "1 1 (1 + 2x) 1 1 1 1 1",
+                "line 3, column 11: 'i' behind the imaginary part expected, found 'x'",
+            ),
+            (
+                "1 + 2i 1 1 1 1 1 1 1",
+                "line 3, column 3: a sign alone: a number with blanks needs brackets, as in (1 + 2i)",
             ),
         ] {
             assert_eq!(message(&with_row("1", row)), expected);

@@ -44,6 +44,27 @@ pub fn c(text: &str) -> Vec<String> {
     found
 }
 
+/// What a header declares for others to define: structs, enums and functions.
+pub fn header(text: &str) -> Vec<String> {
+    let mut found = Vec::new();
+    let mut comment = false;
+    for line in text.lines() {
+        let words: Vec<&str> = line.split_whitespace().collect();
+        let begins = line.starts_with(|c: char| c.is_ascii_alphabetic());
+        match words[..] {
+            ["struct" | "enum", name, "{"] if !comment => found.push(name.to_string()),
+            _ if begins && !comment => found.extend(c_name(line)),
+            _ => {}
+        }
+        // the last mark of a comment on the line says whether it goes on
+        comment = match (line.rfind("/*"), line.rfind("*/")) {
+            (None, None) => comment,
+            (start, end) => start > end,
+        };
+    }
+    found
+}
+
 /// Whether a body or a value comes before the semicolon.
 fn is_defined(lines: &[&str]) -> bool {
     let mut letters = lines.iter().flat_map(|line| line.chars());
@@ -101,5 +122,7 @@ static int array[3] = {1};
 extern int more[3];
 ";
         assert_eq!(c(text), ["MACRO", "with_body", "with_more", "array"]);
+        let text = "/* a\nb(c) */\nstruct reply {\n    int x; /* y */\n};\n\nint call(int a);\n";
+        assert_eq!(header(text), ["reply", "call"]);
     }
 }

@@ -44,9 +44,45 @@ fn whole_numbers_and_fractions_become_a_record() {
         assert_eq!((outcome.status, outcome.stderr.as_str()), (0, ""));
         assert_eq!(folder.read(name), expected, "{name}");
     }
+    folder.write("in.txt", text("1", "2j"));
     let outcome = folder.run(&["pack", "in.txt", "out.bin"]);
     let heard = "heard antennas: 0 1 2 3 4 5 6 7 (heard byte FF), silent: none";
     assert_eq!(outcome.text(), format!("out.bin: matrix record, {heard}\n"));
+}
+
+#[test]
+fn what_numpy_matlab_and_editors_write_is_read() {
+    let folder = Folder::new("pack-others");
+    for (name, content, expected) in [
+        (
+            "commas",
+            text("1", "(0 + 2i)").replace("  ", ","),
+            matrix_record(1, (0, 2)),
+        ),
+        (
+            "mark",
+            format!("\u{feff}{}", text("1", "-3")),
+            matrix_record(1, (-3, 0)),
+        ),
+        (
+            "numpy",
+            text(
+                " (5.000000000000000000e-01+0.000000000000000000e+00j)",
+                " (-2.500000000000000000e-01-1.000000000000000000e+00j)",
+            ),
+            matrix_record(16384, (-8192, -32768)),
+        ),
+        (
+            "exponents",
+            text("1.0e-04", "1e-5-0j"),
+            matrix_record(3, (0, 0)),
+        ),
+    ] {
+        folder.write("in.txt", content);
+        let outcome = folder.run(&["pack", "in.txt", name]);
+        assert_eq!((outcome.status, outcome.stderr.as_str()), (0, ""));
+        assert_eq!(folder.read(name), expected, "{name}");
+    }
 }
 
 #[test]
@@ -74,8 +110,8 @@ fn bad_text_is_pointed_at_and_nothing_is_written() {
     let folder = Folder::new("pack-bad");
     folder.write("old.bin", "as it was");
     for (content, message) in [
-        (text("1", "32768"), "line 1, column 22: 32768 is out of range: whole numbers go from -32768 to 32767"),
-        (text("0.5", "1.0"), "line 1, column 24: 1.0 is out of range: times 32768 and rounded, fractions go from -32768 to 32767"),
+        (text("1", "32768"), "line 1, column 22: 32768 is out of range: whole numbers are units of 1/32768 and go from -32768 to 32767"),
+        (text("0.5", "1.0"), "line 1, column 24: 1.0 is out of range: numbers with a point or an exponent are parts of one and go from -1 to 32767/32768, about 0.99997; divide all numbers of the matrix by one that brings them into this range"),
         (text("1", "1+2k"), "line 1, column 25: 'i' behind the imaginary part expected, found 'k'"),
         (text("1", "2 3"), "line 1, column 24: a ninth number in row 0, a row has 8"),
         (text("1", ""), "line 1, column 20: row 0 ends after 7 numbers, 8 are needed"),

@@ -1,4 +1,4 @@
-use crate::tool::{add_to_word, diagonal_result, matrix_record, worked, Folder};
+use crate::tool::{add_to_word, diagonal_result, matrix_record, worked, Folder, WIDEST};
 
 #[test]
 fn a_matrix_is_shown_so_that_it_can_be_packed_again() {
@@ -11,7 +11,7 @@ fn a_matrix_is_shown_so_that_it_can_be_packed_again() {
         folder.write("m.bin", &record);
         let shown = folder.run(&["show", "m.bin"]);
         assert_eq!((shown.status, shown.stderr.as_str()), (0, ""));
-        assert!(shown.text().lines().all(|line| line.len() <= 200));
+        assert!(shown.text().lines().all(|line| line.len() <= WIDEST));
         let packed = folder.run_with_input(&["pack", "-", "-"], &shown.stdout);
         assert_eq!(packed.stdout, record);
     }
@@ -36,37 +36,55 @@ fn zeros_are_shown_with_the_reason_of_their_refusal() {
     );
 }
 
+/// Where a block of eight columns begins among the lines of a shown result: R's two, then Q's two. Each
+/// has an empty line, its name, the columns' numbers and 16 rows.
+fn block(number: usize) -> usize {
+    1 + 19 * number
+}
+
 #[test]
 fn a_result_is_shown_at_the_scales_of_r_and_q() {
     let folder = Folder::new("show-result");
     let mut record = diagonal_result(3 << 13, 1 << 30);
     add_to_word(&mut record, 15, -(1 << 12));
     add_to_word(&mut record, 1, 1);
+    add_to_word(&mut record, 2, -1);
     add_to_word(&mut record, 256 + 16 * 5 + 2, 1 << 28);
     let shown = folder.run_with_input(&["show", "-"], &record);
     let lines: Vec<&str> = shown.text().lines().collect();
     assert_eq!((shown.status, shown.stderr.as_str()), (0, ""));
-    assert_eq!(lines.len(), 2 + 18 + 1 + 18);
-    assert!(lines.iter().all(|line| line.len() <= 200));
-    let cells = |line: usize| lines[line].split_whitespace().collect::<Vec<_>>();
+    assert_eq!(lines.len(), block(4));
+    let row = |number: usize, i: usize| {
+        let line = lines[block(number) + 3 + i];
+        line.split_whitespace().collect::<Vec<_>>()
+    };
     let upright = "R is upper triangular and its first 15 diagonal words are not negative";
     assert_eq!(lines[0], format!("result record: {upright}"));
-    assert_eq!(cells(4)[..3], ["0", "3.00", "0.00"], "row 0 of R");
-    assert_eq!(cells(4)[16], "-0.50");
-    assert_eq!(cells(5)[1..3], ["0", "3.00"], "row 1 of R");
-    assert_eq!(cells(22 + 3)[..4], ["2", "0", "0", "1.00000"], "row 2 of Q");
-    assert_eq!(cells(22 + 3)[6], "0.25000", "Q and not Q transposed");
+    let (r, q) = (
+        "R in steps of the 16-bit input (word / 2^13), columns",
+        "Q in parts of one (word / 2^30), columns",
+    );
+    assert_eq!(lines[block(0) + 1], format!("{r} 0 to 7"));
+    assert_eq!(lines[block(1) + 1], format!("{r} 8 to 15"));
+    assert_eq!(lines[block(3) + 1], format!("{q} 8 to 15"));
+    assert_eq!(row(0, 0)[..4], ["0", "3.00", "0.00", "0.00"], "row 0 of R");
+    assert_eq!(row(1, 0)[8], "-0.50", "the last word of row 0");
+    assert_eq!(row(0, 1)[1..3], ["0", "3.00"], "row 1 of R");
+    assert_eq!(row(2, 2)[..4], ["2", "0", "0", "1.00000"], "row 2 of Q");
+    assert_eq!(row(2, 2)[6], "0.25000", "Q and not Q transposed");
 }
 
 #[test]
-fn the_largest_words_fit_in_200_columns() {
+fn the_largest_words_fit_and_zero_has_no_sign() {
     let folder = Folder::new("show-wide");
     let mut record = worked(&matrix_record(-32768, (-32768, -32768)));
     add_to_word(&mut record, 255, i32::MIN);
     let shown = folder.run_with_input(&["show", "-"], &record);
     assert_eq!(shown.status, 0);
     let widest = shown.text().lines().map(str::len).max();
-    assert!(widest <= Some(200), "{widest:?}");
+    assert!(widest <= Some(WIDEST), "{widest:?}");
+    let mut words = shown.text().split_whitespace();
+    assert!(words.all(|word| word != "-0.00" && word != "-0.00000"));
 }
 
 #[test]

@@ -3,9 +3,12 @@ use std::fs;
 use std::io::Write;
 use std::os::unix::fs::PermissionsExt;
 use std::path::PathBuf;
-use std::process::{Command, Stdio};
+use std::process::{Child, Command, Output, Stdio};
 
 use hubqr::{AREA_WORDS, KIND_MATRIX, RESULT_RECORD_BYTES};
+
+/// No line that is printed for people is longer, but for sentences.
+pub const WIDEST: usize = 100;
 
 /// What a run of the program left.
 pub struct Outcome {
@@ -15,6 +18,20 @@ pub struct Outcome {
 }
 
 impl Outcome {
+    fn of(output: Output) -> Outcome {
+        Outcome {
+            status: output.status.code().unwrap(),
+            stdout: output.stdout,
+            stderr: String::from_utf8(output.stderr).unwrap(),
+        }
+    }
+
+    fn of_child(mut child: Child, input: &[u8]) -> Outcome {
+        // A program that does not read its input may have ended by now.
+        let _ = child.stdin.take().unwrap().write_all(input);
+        Outcome::of(child.wait_with_output().unwrap())
+    }
+
     pub fn text(&self) -> &str {
         std::str::from_utf8(&self.stdout).unwrap()
     }
@@ -79,26 +96,41 @@ impl Folder {
         command
     }
 
+    /// What the program does where a shell closes standard output before it starts.
+    pub fn run_with_output_closed(&self, arguments: &[&str]) -> Outcome {
+        let output = Command::new("sh")
+            .args(["-c", "exec \"$0\" \"$@\" >&-"])
+            .arg(env!("CARGO_BIN_EXE_record"))
+            .args(arguments)
+            .current_dir(&self.path)
+            .output()
+            .unwrap();
+        Outcome::of(output)
+    }
+
+    /// What the program does where nobody reads what it writes. It waits for its input, which comes
+    /// when the reader is gone.
+    pub fn run_with_output_unread(&self, arguments: &[&str], input: &[u8]) -> Outcome {
+        let mut child = self.spawn(arguments);
+        drop(child.stdout.take());
+        Outcome::of_child(child, input)
+    }
+
     pub fn run(&self, arguments: &[&str]) -> Outcome {
         self.run_with_input(arguments, &[])
     }
 
     pub fn run_with_input(&self, arguments: &[&str], input: &[u8]) -> Outcome {
-        let mut child = self
-            .command(arguments)
+        Outcome::of_child(self.spawn(arguments), input)
+    }
+
+    fn spawn(&self, arguments: &[&str]) -> Child {
+        self.command(arguments)
             .stdin(Stdio::piped())
             .stdout(Stdio::piped())
             .stderr(Stdio::piped())
             .spawn()
-            .unwrap();
-        // A program that does not read its input may have ended by now.
-        let _ = child.stdin.take().unwrap().write_all(input);
-        let output = child.wait_with_output().unwrap();
-        Outcome {
-            status: output.status.code().unwrap(),
-            stdout: output.stdout,
-            stderr: String::from_utf8(output.stderr).unwrap(),
-        }
+            .unwrap()
     }
 }
 

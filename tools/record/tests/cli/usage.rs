@@ -1,5 +1,3 @@
-use std::process::{Command, Stdio};
-
 use crate::tool::{matrix_record, Folder};
 
 #[test]
@@ -15,6 +13,7 @@ fn help_is_printed() {
         let outcome = folder.run(arguments);
         assert_eq!((outcome.status, outcome.stderr.as_str()), (0, ""));
         assert!(outcome.text().starts_with(start), "{}", outcome.text());
+        assert!(outcome.text().lines().all(|line| line.len() <= 102));
     }
 }
 
@@ -59,18 +58,16 @@ fn a_wrong_command_line_is_an_error_of_status_2() {
 }
 
 #[test]
-fn a_reader_that_stops_early_is_no_failure() {
-    let folder = Folder::new("usage-pipe");
-    folder.write("m.bin", matrix_record(1, (2, 3)));
-    let path = concat!(env!("CARGO_TARGET_TMPDIR"), "/usage-pipe/m.bin");
-    let mut child = Command::new(env!("CARGO_BIN_EXE_record"))
-        .args(["show", path])
-        .stdout(Stdio::piped())
-        .stderr(Stdio::piped())
-        .spawn()
-        .unwrap();
-    drop(child.stdout.take());
-    let output = child.wait_with_output().unwrap();
-    assert_eq!(output.status.code(), Some(0));
-    assert!(output.stderr.is_empty());
+fn the_version_is_printed() {
+    let outcome = Folder::new("usage-version").run(&["--version"]);
+    let expected = format!("record {}\n", env!("CARGO_PKG_VERSION"));
+    assert_eq!((outcome.status, outcome.text()), (0, expected.as_str()));
+}
+
+#[test]
+fn a_name_that_begins_with_a_dash_stands_behind_two() {
+    let folder = Folder::new("usage-dashes");
+    folder.write("-m.bin", matrix_record(1, (2, 3)));
+    assert_eq!(folder.run(&["show", "-m.bin"]).status, 2);
+    assert_eq!(folder.run(&["show", "--", "-m.bin"]).status, 0);
 }

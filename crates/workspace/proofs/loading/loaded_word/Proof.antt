@@ -1,11 +1,14 @@
 -- `loaded_word` meets its contract: an entry is at most 2^15 in magnitude, so 2^13 times it fits. Assumes nothing.
 use mathlib.Core.Path.{ap, _∙_}
+use Prim.Native.Nat.{_≤_}
 use native.Mathlib.Omega.{arith}
 use borrow.Author.Tests.{lt-ltb, le-ltb, eq-eqb, ne-eqb}
 use lib.IntN.{ℤ, pos, _*ℤ_}
+use lib.Signed.{mag}
 use mir.Facts.{toZ-ofZ}
 use Rattle.workspace.specs.Loading.{loadedAt}
 use mir.Syntax.{w32}
+use mir.Val.{SFits}
 use Rattle.integers.proofs.Magnitude.{read-back, mag-mul}
 use borrow.Author.Needs.{needs}
 use Rattle.workspace.proofs.loading.loaded_word.Statement.{statement}
@@ -14,8 +17,11 @@ use Rattle.workspace.proofs.loading.loaded_word.Tie as tie
 real-entry-requires : tie.Need-real-entry-requires
 real-entry-requires c κs = search needs
 
+entry-fits : (z : ℤ) → mag z ≤ 32768 → SFits w32 (z *ℤ pos 8192)
+entry-fits z h = record { sfits = omega (arith, mag-mul z 8192) }
+
 mul-result : tie.Need-mul-result
-mul-result c = rw (read-back w32 (c .real-entry .ok)) (omega (arith, mag-mul (c .real-entry .result) 8192))
+mul-result c = rw (read-back w32 (c .real-entry .ok)) (entry-fits (c .real-entry .result) (c .real-entry .ensures .1))
 
 add-if2 : tie.Need-add-if2
 add-if2 c = search needs
@@ -24,7 +30,8 @@ returns : tie.Need-returns
 unfolding loadedAt
 returns c =
     simp (lt-ltb _ _ (c .before .if1 .taken))
-    (toZ-ofZ (mul-result c) ∙ ap (λ (z : ℤ). z *ℤ pos 8192) (read-back w32 (c .real-entry .ok) ∙ c .real-entry .ensures .0))
+    (rw (read-back w32 {z = c .real-entry .result} (c .real-entry .ok))
+    (toZ-ofZ (entry-fits (c .real-entry .result) (c .real-entry .ensures .1)) ∙ ap (λ (z : ℤ). z *ℤ pos 8192) (c .real-entry .ensures .0)))
 
 returns-2 : tie.Need-returns-2
 unfolding loadedAt

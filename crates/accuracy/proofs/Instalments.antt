@@ -1,0 +1,137 @@
+-- Runs of any allowances in step and a Fetch meet the premise of demand 3, and refused calls may stand anywhere. Assumes nothing.
+use mathlib.Core.Path.{_≡_, refl, sym, ap, subst}
+use mathlib.Core.Logic.{_↔_}
+use mathlib.Core.List.{List, [], _∷_, _++_}
+use Prim.Native.Nat.{ℕ, _+_, _≤_, min}
+use native.Mathlib.Omega.{arith}
+use lib.ListN.{length}
+use Rattle.lists.specs.Lists.{sumOf}
+use Rattle.lists.specs.Histories.{afterAll, Each}
+use Rattle.lists.proofs.Histories.{Along, each-of}
+use Rattle.engine.specs.Run.{runMade, runBy, runOf}
+use Rattle.engine.proofs.Accepted.{run-passes}
+use Rattle.accuracy.specs.Demand3.{loaded, RunCall, Call, run, fetch, State, Accepted, InStep, after, Load, start, EachInStep}
+use Rattle.accuracy.specs.Instalments.{instalments, lastFetch, instalmentCalls, InstalmentsPossible, RefusedAnywhere}
+use Rattle.accuracy.proofs.WorkspaceAfter.{after-length}
+use Rattle.accuracy.proofs.Demand3.{first, start-is, room, Standing, standing-start, standing-next, fetch-iff}
+use Rattle.accuracy.proofs.Possible.{Stepping, refused-stays}
+
+-- ---- Runs in step
+
+-- a call in step, which is accepted if it is a Run
+unfoldable Taken : State → Call → Type 0
+Taken s (run r) = Accepted s (run r) × InStep s (run r)
+Taken s (fetch f) = InStep s (fetch f)
+
+taken-in-step : (s : State) (c : Call) → Taken s c → InStep s c
+unfolding Taken
+taken-in-step s (run r) t = t .1
+taken-in-step s (fetch f) t = t
+
+module _ (l : Load) where
+  -- a Run in step
+  module _ (s : State) (turn : ℕ) (h : Standing l s) (e : turn ≡ s .turn) (budget : ℕ) where
+    next : RunCall
+    next = record { turn = turn; budget = budget; lent = loaded }
+
+    run-taken : Accepted s (run next)
+    unfolding next
+    run-taken = run-passes turn (s .workspace) (record {
+      room = rw (h .workspace) (omega (arith, after-length (first l) (room l) (min 120 (s .granted)) (omega arith), room l));
+      before = omega (arith, h .turn);
+    })
+
+    next-standing : Standing l (after s (run next))
+    unfolding next
+    next-standing = standing-next l s (run next) h (λ z. (refl, e))
+
+    next-granted : after s (run next) .granted ≡ s .granted + budget
+    unfolding next runOf runBy runMade
+    next-granted = rw run-taken
+
+    next-turn : min 120 (turn + budget) ≡ after s (run next) .turn
+    next-turn = omega (arith, next-standing .turn, next-granted, h .turn)
+
+  -- Runs in step, and what follows
+  goes : (s : State) (turn : ℕ) → Standing l s → turn ≡ s .turn → (budgets : List ℕ) (rest : List Call)
+      → Along after Taken (afterAll after s (instalments turn budgets)) rest → Along after Taken s (instalments turn budgets ++ rest)
+  unfolding instalments Along afterAll Taken next
+  goes s turn h e [] rest a = a
+  goes s turn h e (b ∷ budgets) rest a =
+      ((run-taken s turn h e b, (refl, e)), goes (after s (run (next s turn h e b))) (min 120 (turn + b)) (next-standing s turn h e b) (next-turn s turn h e b) budgets rest a)
+
+  -- the state after them
+  record Ending (s : State) (granted : ℕ) : Type 0 where
+    standing : Standing l s
+    all : s .granted ≡ granted
+
+  ends : (s : State) (turn : ℕ) → Standing l s → turn ≡ s .turn → (budgets : List ℕ) → Ending (afterAll after s (instalments turn budgets)) (s .granted + sumOf budgets)
+  unfolding instalments afterAll sumOf next
+  ends s turn h e [] = record { standing = h; all = omega arith }
+  ends s turn h e (b ∷ budgets) =
+      let n = ends (after s (run (next s turn h e b))) (min 120 (turn + b)) (next-standing s turn h e b) (next-turn s turn h e b) budgets in
+      record { standing = n .standing; all = omega (arith, n .all, next-granted s turn h e b) }
+
+  -- ---- from an accepted Load on, and a Fetch
+  module _ (budgets buffer : List ℕ) where
+    at-start : 0 ≡ start l .turn
+    at-start = sym (ap (λ (s : State). s .turn) (start-is l))
+
+    end : State
+    end = afterAll after (start l) (instalments 0 budgets)
+
+    at-end : Ending end (sumOf budgets)
+    unfolding end
+    at-end =
+        let n = ends (start l) 0 (standing-start l) at-start budgets in
+        let z : start l .granted ≡ 0 = ap (λ (s : State). s .granted) (start-is l) in
+        record { standing = n .standing; all = omega (arith, n .all, z) }
+
+    last-in-step : InStep end (fetch (lastFetch budgets buffer))
+    last-in-step = (refl, omega (arith, at-end .standing .turn, at-end .all))
+
+    all-taken : Each after Taken (start l) (instalmentCalls budgets buffer)
+    unfolding Along Taken end
+    all-taken =
+        each-of after Taken (start l) (instalmentCalls budgets buffer)
+        (goes (start l) 0 (standing-start l) at-start budgets (fetch (lastFetch budgets buffer) ∷ []) (last-in-step, tt))
+
+    last-accepted : Accepted end (fetch (lastFetch budgets buffer)) ↔ ((120 ≤ sumOf budgets) × (2049 ≤ length buffer))
+    last-accepted =
+        subst (λ (n : ℕ). Accepted end (fetch (lastFetch budgets buffer)) ↔ ((120 ≤ n) × (2049 ≤ length buffer))) (at-end .all)
+        (fetch-iff l end (at-end .standing) (lastFetch budgets buffer) last-in-step)
+
+pub instalments-possible : InstalmentsPossible
+unfolding EachInStep Taken end
+instalments-possible l budgets buffer = record {
+  in-step = λ c p z. taken-in-step _ c (all-taken l budgets buffer c p);
+  runs-accepted = λ r p. all-taken l budgets buffer (run r) p .0;
+  fetch-accepted = last-accepted l budgets buffer;
+}
+
+-- ---- refused calls anywhere
+
+-- what holds at every place holds call by call
+along-of : (s : State) (calls : List Call) → Each after Stepping s calls → Along after Stepping s calls
+unfolding Along afterAll
+along-of s [] each = tt
+along-of s (c ∷ calls) each = (
+  each c (record { before = []; rest = calls; is = refl }),
+  along-of (after s c) calls (λ d p. each d (record { before = c ∷ p .before; rest = p .rest; is = ap (λ (t : List Call). c ∷ t) (p .is) })),
+)
+
+module _ (b : List Call) (c : Call) where
+  put-in : (s : State) (a : List Call) → (Accepted (afterAll after s a) c → ⊥) → Along after Stepping s (a ++ b) → Along after Stepping s (a ++ c ∷ b)
+  unfolding Along afterAll
+  put-in s [] n h = ((λ z. absurd (n z)), subst (λ (t : State). Along after Stepping t b) (sym (refused-stays s c n)) h)
+  put-in s (x ∷ a) n h = (h .0, put-in (after s x) a n (h .1))
+
+  same-end : (s : State) (a : List Call) → (Accepted (afterAll after s a) c → ⊥) → afterAll after s (a ++ c ∷ b) ≡ afterAll after s (a ++ b)
+  unfolding afterAll
+  same-end s [] n = ap (λ (t : State). afterAll after t b) (refused-stays s c n)
+  same-end s (x ∷ a) n = same-end (after s x) a n
+
+pub refused-anywhere : RefusedAnywhere
+unfolding EachInStep
+refused-anywhere l a b c each n =
+    (each-of after Stepping (start l) (a ++ c ∷ b) (put-in b c (start l) a n (along-of (start l) (a ++ b) each)), same-end b c (start l) a n)

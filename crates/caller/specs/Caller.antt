@@ -1,0 +1,56 @@
+-- Calls one after the other, each on the words and the turn number that the one before left: all replies, and what is left in every lent buffer, on
+-- all inputs. Assumes nothing.
+use mathlib.Core.List.{List}
+use Prim.Native.Nat.{ℕ}
+use lib.IntN.{ℤ}
+use Rattle.engine.specs.Load.{loadOf}
+use Rattle.engine.specs.Run.{runOf}
+use Rattle.engine.specs.Fetch.{fetchOf}
+use Rattle.engine.specs.Read.{readOf}
+use Rattle.engine.specs.Whole.{wholeOf}
+use Rattle.caller.specs.declared.HalvesReply.{HalvesReply}
+use Rattle.caller.specs.declared.AgainReply.{AgainReply}
+use Rattle.caller.specs.declared.CopyReply.{CopyReply}
+
+pub record HalvesOutcome : Type 0 where
+  pub reply : HalvesReply
+  pub workspace : List ℤ
+  pub buffer : List ℕ
+
+-- Load, Run with an allowance of 60, Run with 60 from where that ended, and Fetch
+unfoldable pub halvesOf : List ℕ → List ℤ → List ℕ → HalvesOutcome
+halvesOf rec workspace buffer =
+    let loaded = loadOf rec workspace in
+    let half = runOf (loaded .reply .turn) 60 (loaded .workspace) in
+    let end = runOf (half .reply .turn) 60 (half .workspace) in
+    let fetched = fetchOf (end .reply .turn) (end .workspace) buffer in
+    record {
+      reply = record { load = loaded .reply; first = half .reply; second = end .reply; number = fetched .number };
+      workspace = end .workspace;
+      buffer = fetched .buffer;
+    }
+
+pub record AgainOutcome : Type 0 where
+  pub reply : AgainReply
+  pub workspace : List ℤ
+  pub buffer : List ℕ
+
+-- Read, and Fetch
+unfoldable pub againOf : List ℕ → List ℤ → List ℕ → AgainOutcome
+againOf rec workspace buffer =
+    let taken = readOf rec workspace in
+    let fetched = fetchOf (taken .reply .turn) (taken .workspace) buffer in
+    record { reply = record { read = taken .reply; number = fetched .number }; workspace = taken .workspace; buffer = fetched .buffer }
+
+pub record CopyOutcome : Type 0 where
+  pub reply : CopyReply
+  pub workspace : List ℤ
+  pub buffer : List ℕ
+  pub copy : List ℕ
+
+-- Whole, and Fetch at turn number 120 into another buffer
+unfoldable pub copyOf : List ℕ → List ℤ → List ℕ → List ℕ → CopyOutcome
+copyOf rec workspace buffer copy =
+    let done = wholeOf rec workspace buffer in
+    let fetched = fetchOf 120 (done .workspace) copy in
+    record { reply = record { whole = done .reply; number = fetched .number }; workspace = done .workspace; buffer = done .buffer; copy = fetched .buffer }

@@ -1,0 +1,2 @@
+-- What a caller of the five calls answers and leaves.
+pub mod Caller

@@ -1,0 +1,26 @@
+#!/bin/sh
+# Shows the product at work: a sample record, what the program makes of it, and whether that is right. Ends with 0 when it is.
+# Usage: examples/run.sh QR RECORD RESULT    the programs qr and record, and the file for the result; from the top of the repository
+set -eu
+qr=$1
+record=$2
+result=$3
+sample=examples/records/hermitian.bin
+
+echo '1. What a hub heard: the covariance of three machines and some noise at its eight antennas.'
+echo "   $ $record show $sample"
+echo
+"$record" show "$sample"
+echo
+echo '2. What the proved program makes of it: R and Q of the matrix, worked as a real one of 16 by 16.'
+echo "   $ $qr < $sample > $result"
+echo "   $ $record show $result"
+echo
+"$qr" <"$sample" >"$result"
+"$record" show "$result"
+echo
+echo '3. Is it right? From the two records alone, in exact whole numbers: Q times R has to be the input,'
+echo "   the rows of Q orthogonal, and the products of R's columns those of the input's."
+echo "   $ $record check $sample $result"
+echo
+"$record" check "$sample" "$result"
