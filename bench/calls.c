@@ -51,13 +51,15 @@ uint8_t NAME(load)(const uint8_t *record, int32_t *area)
 }
 
 /* Makes at most `allowance` of the turns that remain and answers the clamps. */
-uint32_t NAME(run)(uint32_t turn, uint16_t allowance, int32_t *area)
+struct clamps NAME(run)(uint32_t turn, uint16_t allowance, int32_t *area)
 {
     uint32_t end = allowance < TURNS - turn ? turn + allowance : TURNS;
-    uint32_t clamps = 0;
+    struct clamps clamps = {0, 0};
     for (; turn < end; turn++) {
         const uint8_t *t = schedule[turn];
-        clamps += NAME(ROTATE)(area + COLUMNS * t[1], area + COLUMNS * t[2], t[0]);
+        struct clamps more = NAME(ROTATE)(area + COLUMNS * t[1], area + COLUMNS * t[2], t[0]);
+        clamps.r += more.r;
+        clamps.q += more.q;
     }
     return clamps;
 }

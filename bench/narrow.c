@@ -55,11 +55,11 @@ static void rotate_small(int32_t *restrict upper, int32_t *restrict lower, int c
     lower[0] = 0;
 }
 
-uint32_t NAME(rotate_narrow)(int32_t *upper, int32_t *lower, int leading)
+struct clamps NAME(rotate_narrow)(int32_t *upper, int32_t *lower, int leading)
 {
     if (!is_small(upper, lower, leading)) {
         return NAME(rotate_wide)(upper, lower, leading);
     }
     rotate_small(upper + leading, lower + leading, COLUMNS - leading);
-    return 0;
+    return (struct clamps){0, 0};
 }

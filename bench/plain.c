@@ -1,11 +1,11 @@
 /* A turn as the specification words it: sums in 64 bits, one column after the other. The leading column decides the signs. */
 #include "version.h"
 
-uint32_t NAME(rotate_plain)(int32_t *upper, int32_t *lower, int leading)
+struct clamps NAME(rotate_plain)(int32_t *upper, int32_t *lower, int leading)
 {
     int negate = upper[leading] < 0;
     int positive[STEPS];
-    uint32_t clamps = 0;
+    struct clamps clamps = {0, 0};
     for (int k = leading; k < COLUMNS; k++) {
         int64_t u = negate ? -(int64_t)upper[k] : upper[k];
         int64_t v = negate ? -(int64_t)lower[k] : lower[k];
@@ -18,8 +18,14 @@ uint32_t NAME(rotate_plain)(int32_t *upper, int32_t *lower, int leading)
             u = positive[i] ? u + a : u - a;
             v = positive[i] ? v - b : v + b;
         }
-        upper[k] = clamped(u, &clamps);
-        lower[k] = k == leading ? 0 : clamped(v, &clamps);
+        uint32_t altered = 0;
+        upper[k] = clamped(u, &altered);
+        lower[k] = k == leading ? 0 : clamped(v, &altered);
+        if (k < R_COLUMNS) {
+            clamps.r += altered;
+        } else {
+            clamps.q += altered;
+        }
     }
     return clamps;
 }

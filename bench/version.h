@@ -11,19 +11,26 @@
 #define JOIN(a, b) JOINED(a, b)
 #define NAME(name) JOIN(VERSION, name)
 
-enum { ROWS = 16, COLUMNS = 32, STEPS = 28, TURNS = 120 };
+/* Columns before R_COLUMNS hold R, the others Q transposed. */
+enum { ROWS = 16, R_COLUMNS = 16, COLUMNS = 32, STEPS = 28, TURNS = 120 };
 enum { INPUT_SCALE = 1 << 13, ONE = 1 << 30, GAIN = 652032874 };
+
+/* Clamps by side: of the columns that hold R, and of those that hold Q. */
+struct clamps {
+    uint32_t r;
+    uint32_t q;
+};
 
 /* What Whole answers. */
 struct whole_reply {
     uint8_t heard;
-    uint32_t clamps;
+    struct clamps clamps;
 };
 
-/* One turn of two rows of the area, from the leading column on. Answers the clamps. */
-uint32_t NAME(rotate_plain)(int32_t *upper, int32_t *lower, int leading);
-uint32_t NAME(rotate_wide)(int32_t *upper, int32_t *lower, int leading);
-uint32_t NAME(rotate_narrow)(int32_t *upper, int32_t *lower, int leading);
+/* One turn of two rows of the area, from the leading column on, which is one of R. Answers the clamps. */
+struct clamps NAME(rotate_plain)(int32_t *upper, int32_t *lower, int leading);
+struct clamps NAME(rotate_wide)(int32_t *upper, int32_t *lower, int leading);
+struct clamps NAME(rotate_narrow)(int32_t *upper, int32_t *lower, int leading);
 
 /* A word after the micro-steps: the gain taken back, rounded. */
 static inline int64_t scaled(int64_t w)

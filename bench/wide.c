@@ -28,19 +28,28 @@ static void micro_step(int64_t *restrict u, int64_t *restrict v, int leading, in
     }
 }
 
-uint32_t NAME(rotate_wide)(int32_t *upper, int32_t *lower, int leading)
+/* Stores both rows from column `first` to before column `end`. Answers the clamps. */
+static uint32_t store(int32_t *upper, int32_t *lower, const int64_t *u, const int64_t *v, int first, int end)
+{
+    uint32_t clamps = 0;
+    for (int k = first; k < end; k++) {
+        upper[k] = clamped(u[k], &clamps);
+        lower[k] = clamped(v[k], &clamps);
+    }
+    return clamps;
+}
+
+struct clamps NAME(rotate_wide)(int32_t *upper, int32_t *lower, int leading)
 {
     int64_t u[COLUMNS], v[COLUMNS];
-    uint32_t clamps = 0;
+    struct clamps clamps = {0, 0};
     orient(upper, lower, leading, u, v);
     for (int i = 0; i < STEPS; i++) {
         micro_step(u, v, leading, i);
     }
-    upper[leading] = clamped(u[leading], &clamps);
+    upper[leading] = clamped(u[leading], &clamps.r);
     lower[leading] = 0;
-    for (int k = leading + 1; k < COLUMNS; k++) {
-        upper[k] = clamped(u[k], &clamps);
-        lower[k] = clamped(v[k], &clamps);
-    }
+    clamps.r += store(upper, lower, u, v, leading + 1, R_COLUMNS);
+    clamps.q += store(upper, lower, u, v, R_COLUMNS, COLUMNS);
     return clamps;
 }

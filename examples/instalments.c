@@ -61,8 +61,8 @@ static struct hubqr_run_reply work(int32_t *area, uint32_t turn)
         }
         turn = ran.turn;
         other_work(&rounds);
-        printf("turn %3lu of %d, count %lu, clamps %lu, rounds of other work %u\n", (unsigned long)turn, HUBQR_TURNS,
-               (unsigned long)ran.count, (unsigned long)ran.clamps, rounds);
+        printf("turn %3lu of %d, count %lu, clamps %lu in R, %lu in Q, rounds of other work %u\n", (unsigned long)turn,
+               HUBQR_TURNS, (unsigned long)ran.count, (unsigned long)ran.clamps_r, (unsigned long)ran.clamps_q, rounds);
     } while (turn < HUBQR_TURNS);
     return ran;
 }

@@ -29,8 +29,10 @@
  *                caller keeps it beside the area and hands it to the next call; the area does not hold it. Another number than
  *                the one last answered for this area is not noticed and makes the words worthless.
  *   allowance    The most turns that one hubqr_run may make.
- *   clamps       How many words were cut to the 32-bit range. Always 0 for an area that hubqr_load filled and that was worked in
- *                step; not 0 only for words that came from elsewhere.
+ *   clamps       How many words were cut to the 32-bit range, by side, since a cut word of Q harms the beam differently from one
+ *                of R: `clamps_r` counts those of columns 0 to 15, which hold R, and `clamps_q` those of columns 16 to 31, which
+ *                hold Q. Both are always 0 for an area that hubqr_load filled and that was worked in step; they are not 0 only
+ *                for words that came from elsewhere.
  *   heard byte   Bit k (value 2^k) is set when column k of the complex matrix has an element other than zero.
  *
  * Replies and refusals
@@ -69,7 +71,7 @@
 
 /* The version of this header. */
 #define HUBQR_VERSION_MAJOR 0
-#define HUBQR_VERSION_MINOR 2
+#define HUBQR_VERSION_MINOR 3
 #define HUBQR_VERSION_PATCH 0
 #define HUBQR_VERSION (10000 * HUBQR_VERSION_MAJOR + 100 * HUBQR_VERSION_MINOR + HUBQR_VERSION_PATCH)
 
@@ -172,10 +174,11 @@ struct hubqr_load_reply hubqr_load(const uint8_t *record, size_t record_len, int
 
 /* What Run answers. */
 struct hubqr_run_reply {
-    uint8_t number;  /* HUBQR_ACCEPTED, or the refusal */
-    uint32_t turn;   /* the turn number to hand to the next call; refused: the one that was handed over */
-    uint32_t count;  /* the turns made in this call */
-    uint32_t clamps; /* the clamps counted in this call */
+    uint8_t number;    /* HUBQR_ACCEPTED, or the refusal */
+    uint32_t turn;     /* the turn number to hand to the next call; refused: the one that was handed over */
+    uint32_t count;    /* the turns made in this call */
+    uint32_t clamps_r; /* the clamps counted in this call in columns 0 to 15, which hold R */
+    uint32_t clamps_q; /* the clamps counted in this call in columns 16 to 31, which hold Q */
 };
 
 /*
@@ -208,9 +211,10 @@ struct hubqr_read_reply hubqr_read(const uint8_t *record, size_t record_len, int
 
 /* What Whole answers. */
 struct hubqr_whole_reply {
-    uint8_t number;  /* HUBQR_ACCEPTED, or the refusal */
-    uint8_t heard;   /* the heard byte */
-    uint32_t clamps; /* the clamps counted, which are 0 */
+    uint8_t number;    /* HUBQR_ACCEPTED, or the refusal */
+    uint8_t heard;     /* the heard byte */
+    uint32_t clamps_r; /* the clamps counted in columns 0 to 15, which are 0 */
+    uint32_t clamps_q; /* the clamps counted in columns 16 to 31, which are 0 */
 };
 
 /*

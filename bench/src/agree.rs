@@ -6,7 +6,7 @@ use reference::matrix::Matrix;
 use reference::random::Random;
 use reference::records::write_matrix;
 
-use crate::contenders::{Area, Buffer, Contender, Record, ENGINE};
+use crate::contenders::{Area, Buffer, Clamps, Contender, Record, ENGINE};
 use crate::doubles::{product_error, Comparator};
 use crate::inputs;
 
@@ -21,7 +21,7 @@ const TOLERANCE: f64 = 1e-12;
 #[derive(PartialEq)]
 struct Outcome {
     heard: u8,
-    clamps: u32,
+    clamps: Clamps,
     area: Area,
     buffer: Buffer,
 }
@@ -100,14 +100,18 @@ fn in_parts(contender: &Contender, record: &Record) -> Outcome {
     }
 }
 
-fn worked(contender: &Contender, mut words: Area) -> (Area, u32) {
+fn worked(contender: &Contender, mut words: Area) -> (Area, Clamps) {
     let clamps = run_in_instalments(contender, &mut words);
     (words, clamps)
 }
 
-fn run_in_instalments(contender: &Contender, area: &mut Area) -> u32 {
-    let turns = (0..hubqr::TURNS).step_by(usize::from(INSTALMENT));
-    turns
-        .map(|turn| (contender.run)(turn, INSTALMENT, area))
-        .sum()
+/// Answers the clamps of all instalments, by side.
+fn run_in_instalments(contender: &Contender, area: &mut Area) -> Clamps {
+    let mut clamps = Clamps::default();
+    for turn in (0..hubqr::TURNS).step_by(usize::from(INSTALMENT)) {
+        let more = (contender.run)(turn, INSTALMENT, area);
+        clamps.r += more.r;
+        clamps.q += more.q;
+    }
+    clamps
 }

@@ -6,6 +6,26 @@ pub type Record = [u8; hubqr::MATRIX_RECORD_BYTES];
 pub type Area = [i32; hubqr::AREA_WORDS];
 pub type Buffer = [u8; hubqr::RESULT_RECORD_BYTES];
 
+/// Clamps by side, as every contender answers them and as the versions in C hand them over.
+#[repr(C)]
+#[derive(Clone, Copy, Default, PartialEq, Eq)]
+pub struct Clamps {
+    pub r: u32,
+    pub q: u32,
+}
+
+impl From<hubqr::Clamps> for Clamps {
+    fn from(hubqr::Clamps { r, q }: hubqr::Clamps) -> Clamps {
+        Clamps { r, q }
+    }
+}
+
+impl From<reference::clamps::Clamps> for Clamps {
+    fn from(reference::clamps::Clamps { r, q }: reference::clamps::Clamps) -> Clamps {
+        Clamps { r, q }
+    }
+}
+
 /// The calls of one implementation, on input that they accept.
 #[derive(Clone, Copy)]
 pub struct Contender {
@@ -13,10 +33,10 @@ pub struct Contender {
     /// Answers the heard byte.
     pub load: fn(&Record, &mut Area) -> u8,
     /// Answers the clamps.
-    pub run: fn(u32, u16, &mut Area) -> u32,
+    pub run: fn(u32, u16, &mut Area) -> Clamps,
     pub fetch: fn(&Area, &mut Buffer),
     /// Answers the heard byte and the clamps.
-    pub whole: fn(&Record, &mut Area, &mut Buffer) -> (u8, u32),
+    pub whole: fn(&Record, &mut Area, &mut Buffer) -> (u8, Clamps),
 }
 
 /// The version that all others are compared with.
@@ -28,11 +48,14 @@ const ACCEPTED: &str = "the benchmark hands over accepted input only";
 pub const ENGINE: Contender = Contender {
     name: "engine",
     load: |record, area| hubqr::load(record, area).expect(ACCEPTED).heard,
-    run: |turn, allowance, area| hubqr::run(turn, allowance, area).expect(ACCEPTED).clamps,
+    run: |turn, allowance, area| {
+        let progress = hubqr::run(turn, allowance, area).expect(ACCEPTED);
+        progress.clamps.into()
+    },
     fetch: |area, buffer| hubqr::fetch(hubqr::TURNS, area, buffer).expect(ACCEPTED),
     whole: |record, area, buffer| {
         let factored = hubqr::whole(record, area, buffer).expect(ACCEPTED);
-        (factored.heard, factored.clamps)
+        (factored.heard, factored.clamps.into())
     },
 };
 
@@ -40,13 +63,13 @@ pub const ENGINE: Contender = Contender {
 const REFERENCE: Contender = Contender {
     name: "reference, Rust",
     load: |record, area| reference::calls::load(record, area).heard,
-    run: |turn, allowance, area| reference::calls::run(turn, allowance, area).clamps,
+    run: |turn, allowance, area| reference::calls::run(turn, allowance, area).clamps.into(),
     fetch: |area, buffer| {
         reference::calls::fetch(hubqr::TURNS, area, buffer);
     },
     whole: |record, area, buffer| {
         let reply = reference::calls::whole(record, area, buffer);
-        (reply.heard, reply.clamps)
+        (reply.heard, reply.clamps.into())
     },
 };
 

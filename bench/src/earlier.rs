@@ -2,7 +2,7 @@
 
 use hubqr::ffi::{LoadReply, RunReply, WholeReply};
 
-use crate::contenders::{Area, Buffer, Contender, Record};
+use crate::contenders::{Area, Buffer, Clamps, Contender, Record};
 
 extern "C" {
     fn earlier_hubqr_version() -> u32;
@@ -62,17 +62,24 @@ fn load(record: &Record, area: &mut Area) -> u8 {
     reply.heard
 }
 
-fn run(turn: u32, allowance: u16, area: &mut Area) -> u32 {
+fn run(turn: u32, allowance: u16, area: &mut Area) -> Clamps {
     let reply = unsafe { earlier_hubqr_run(turn, allowance, area, area.len()) };
-    reply.clamps
+    Clamps {
+        r: reply.clamps_r,
+        q: reply.clamps_q,
+    }
 }
 
 fn fetch(area: &Area, buffer: &mut Buffer) {
     unsafe { earlier_hubqr_fetch(hubqr::TURNS, area, area.len(), buffer, buffer.len()) };
 }
 
-fn whole(record: &Record, area: &mut Area, buffer: &mut Buffer) -> (u8, u32) {
+fn whole(record: &Record, area: &mut Area, buffer: &mut Buffer) -> (u8, Clamps) {
     let (words, bytes) = (area.len(), buffer.len());
     let reply = unsafe { earlier_hubqr_whole(record, record.len(), area, words, buffer, bytes) };
-    (reply.heard, reply.clamps)
+    let clamps = Clamps {
+        r: reply.clamps_r,
+        q: reply.clamps_q,
+    };
+    (reply.heard, clamps)
 }

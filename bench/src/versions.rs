@@ -1,12 +1,12 @@
 //! The versions in C, as `build.rs` compiled them.
 
-use crate::contenders::Contender;
+use crate::contenders::{Clamps, Contender};
 
 /// What Whole of a version in C answers.
 #[repr(C)]
 pub struct WholeReply {
     heard: u8,
-    clamps: u32,
+    clamps: Clamps,
 }
 
 /// Declares the calls of calls.c under a version's prefix, and makes a contender of them. What they
@@ -15,13 +15,13 @@ macro_rules! version {
     ($version:ident, $name:literal) => {
         pub mod $version {
             use super::WholeReply;
-            use crate::contenders::{Area, Buffer, Contender, Record};
+            use crate::contenders::{Area, Buffer, Clamps, Contender, Record};
 
             extern "C" {
                 #[link_name = concat!(stringify!($version), "_load")]
                 fn load(record: &Record, area: &mut Area) -> u8;
                 #[link_name = concat!(stringify!($version), "_run")]
-                fn run(turn: u32, allowance: u16, area: &mut Area) -> u32;
+                fn run(turn: u32, allowance: u16, area: &mut Area) -> Clamps;
                 #[link_name = concat!(stringify!($version), "_fetch")]
                 fn fetch(area: &Area, buffer: &mut Buffer);
                 #[link_name = concat!(stringify!($version), "_whole")]

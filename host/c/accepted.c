@@ -70,7 +70,7 @@ static void run_all(uint16_t allowance)
         struct hubqr_run_reply ran = hubqr_run(turn, allowance, area, AREA_LENT);
         CHECK("Run", ran.number == HUBQR_ACCEPTED);
         CHECK("Run makes the smaller of allowance and turns left", ran.count == due && ran.turn == turn + due);
-        CHECK("Run of a loaded area counts no clamp", ran.clamps == 0);
+        CHECK("Run of a loaded area counts no clamp", ran.clamps_r == 0 && ran.clamps_q == 0);
         turn = ran.turn;
     }
 }
@@ -81,7 +81,7 @@ static void run_none(const char *what, uint32_t turn, uint16_t allowance)
     remember();
     struct hubqr_run_reply ran = hubqr_run(turn, allowance, area, AREA_LENT);
     CHECK(what, ran.number == HUBQR_ACCEPTED);
-    CHECK(what, ran.turn == turn && ran.count == 0 && ran.clamps == 0);
+    CHECK(what, ran.turn == turn && ran.count == 0 && ran.clamps_r == 0 && ran.clamps_q == 0);
     CHECK(what, unchanged());
 }
 
@@ -113,7 +113,7 @@ static void last_turn(int32_t upper, int32_t lower, int32_t expected)
     *low = lower;
     struct hubqr_run_reply ran = hubqr_run(119, 1, area, AREA_LENT);
     CHECK("last turn", ran.number == HUBQR_ACCEPTED);
-    CHECK("last turn", ran.turn == HUBQR_TURNS && ran.count == 1 && ran.clamps == 0);
+    CHECK("last turn", ran.turn == HUBQR_TURNS && ran.count == 1 && ran.clamps_r == 0 && ran.clamps_q == 0);
     CHECK("leading pair of the last turn", *up == expected && *low == 0);
 }
 
@@ -124,16 +124,47 @@ static void test_turn_values(void)
     last_turn(-1, 0, 17);
 }
 
-/* Words as large as they can be, which no Load makes, are clamped in the upper row of columns 14 to 31. */
+/*
+ * Two rows for the last turn: words as large as they can be, which no Load makes, in the columns from `first` to before `end`,
+ * small ones in the others. The lower row has the same words, times `sign` behind the leading column.
+ */
+static void fill_rows(int first, int end, int32_t sign)
+{
+    int32_t *upper = area + HUBQR_AREA_COLUMNS * 14, *lower = upper + HUBQR_AREA_COLUMNS;
+    for (int column = 0; column < HUBQR_AREA_COLUMNS; column++) {
+        upper[column] = column >= first && column < end ? INT32_MAX : 1000;
+        lower[column] = column > 14 ? sign * upper[column] : upper[column];
+    }
+}
+
+/* Equal words become a longer one in the upper row, opposite ones a longer one in the lower row: the large ones are clamped. */
+static void clamp_columns(const char *what, int first, int end, uint32_t clamps_r, uint32_t clamps_q)
+{
+    for (int32_t sign = -1; sign <= 1; sign += 2) {
+        const int32_t *longer = area + HUBQR_AREA_COLUMNS * (sign < 0 ? 15 : 14);
+        int32_t clamped = sign < 0 ? INT32_MIN : INT32_MAX;
+        int stored = 1;
+        fill_rows(first, end, sign);
+        struct hubqr_run_reply ran = hubqr_run(119, 1, area, AREA_LENT);
+        CHECK(what, ran.number == HUBQR_ACCEPTED && ran.turn == HUBQR_TURNS && ran.count == 1);
+        CHECK(what, ran.clamps_r == clamps_r && ran.clamps_q == clamps_q);
+        for (int column = 15; column < HUBQR_AREA_COLUMNS; column++) {
+            stored &= (longer[column] == clamped) == (column >= first && column < end);
+        }
+        CHECK("Run stores the clamped words", stored);
+    }
+}
+
+/* Columns 14 and 15 count in R, columns 16 to 31 in Q; those before the leading column 14 are not worked on. */
 static void test_clamps(void)
 {
-    for (int k = 0; k < AREA_LENT; k++) {
-        area[k] = INT32_MAX;
-    }
-    struct hubqr_run_reply ran = hubqr_run(119, 1, area, AREA_LENT);
-    CHECK("Run of huge words", ran.number == HUBQR_ACCEPTED && ran.turn == HUBQR_TURNS && ran.count == 1);
-    CHECK("Run counts clamps", ran.clamps == 18);
-    CHECK("Run stores the clamped word", area[HUBQR_AREA_COLUMNS * 14 + 31] == INT32_MAX);
+    clamp_columns("Run of large words", 0, 32, 2, 16);
+    clamp_columns("Run of a large left half", 0, 16, 2, 0);
+    clamp_columns("Run of a large right half", 16, 32, 0, 16);
+    clamp_columns("Run of a large leading column", 14, 15, 1, 0);
+    clamp_columns("Run of a large last column of R", 15, 16, 1, 0);
+    clamp_columns("Run of a large first column of Q", 16, 17, 0, 1);
+    clamp_columns("Run of large columns before the leading one", 0, 14, 0, 0);
 }
 
 /* The word that stands in a result record at place k, R first and then Q transposed. */
@@ -191,7 +222,8 @@ static void test_whole(void)
     remember();
     struct hubqr_whole_reply factored = hubqr_whole(matrix, sizeof matrix, area, AREA_LENT, buffer, BUFFER_LENT);
     CHECK("Whole", factored.number == HUBQR_ACCEPTED);
-    CHECK("Whole answers heard byte and clamps", factored.heard == 0xff && factored.clamps == 0);
+    CHECK("Whole answers the heard byte", factored.heard == 0xff);
+    CHECK("Whole counts no clamp", factored.clamps_r == 0 && factored.clamps_q == 0);
     CHECK("Whole leaves R and Q in the area", memcmp(area, worked, sizeof worked) == 0);
     CHECK("Whole writes the record of Load, Run and Fetch", memcmp(buffer, record, sizeof record) == 0);
     CHECK("Whole leaves what is behind", guards_unchanged());

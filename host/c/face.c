@@ -11,20 +11,22 @@ PLACE(hubqr_load_reply, number, 0);
 PLACE(hubqr_load_reply, heard, 1);
 PLACE(hubqr_load_reply, turn, 4);
 
-SIZE(hubqr_run_reply, 16);
+SIZE(hubqr_run_reply, 20);
 PLACE(hubqr_run_reply, number, 0);
 PLACE(hubqr_run_reply, turn, 4);
 PLACE(hubqr_run_reply, count, 8);
-PLACE(hubqr_run_reply, clamps, 12);
+PLACE(hubqr_run_reply, clamps_r, 12);
+PLACE(hubqr_run_reply, clamps_q, 16);
 
 SIZE(hubqr_read_reply, 8);
 PLACE(hubqr_read_reply, number, 0);
 PLACE(hubqr_read_reply, turn, 4);
 
-SIZE(hubqr_whole_reply, 8);
+SIZE(hubqr_whole_reply, 12);
 PLACE(hubqr_whole_reply, number, 0);
 PLACE(hubqr_whole_reply, heard, 1);
-PLACE(hubqr_whole_reply, clamps, 4);
+PLACE(hubqr_whole_reply, clamps_r, 4);
+PLACE(hubqr_whole_reply, clamps_q, 8);
 
 _Static_assert(HUBQR_VERSION_MINOR < 100 && HUBQR_VERSION_PATCH < 100, "two digits each in HUBQR_VERSION");
 _Static_assert(HUBQR_AREA_ROWS * HUBQR_AREA_COLUMNS == HUBQR_AREA_WORDS, "the area's shape");

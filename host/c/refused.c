@@ -33,7 +33,8 @@ static void refuse_load(const struct handed *h)
 static void refuse_run(const struct handed *h)
 {
     struct hubqr_run_reply reply = hubqr_run(h->turn, 120, h->area, h->area_len);
-    CHECK(h->what, reply.number == h->number && reply.turn == h->turn && reply.count == 0 && reply.clamps == 0);
+    CHECK(h->what, reply.number == h->number && reply.turn == h->turn && reply.count == 0);
+    CHECK(h->what, reply.clamps_r == 0 && reply.clamps_q == 0);
 }
 
 static void refuse_fetch(const struct handed *h)
@@ -50,7 +51,7 @@ static void refuse_read(const struct handed *h)
 static void refuse_whole(const struct handed *h)
 {
     struct hubqr_whole_reply reply = hubqr_whole(h->record, h->record_len, h->area, h->area_len, h->buffer, h->buffer_len);
-    CHECK(h->what, reply.number == h->number && reply.heard == 0 && reply.clamps == 0);
+    CHECK(h->what, reply.number == h->number && reply.heard == 0 && reply.clamps_r == 0 && reply.clamps_q == 0);
 }
 
 /* Makes the refused calls of a table on the area and buffer as they stand. */

@@ -18,9 +18,18 @@ static bool accepted()
     auto factored = hubqr_whole(record.data(), record.size(), area.data(), area.size(), buffer.data(), buffer.size());
     auto restored = hubqr_read(buffer.data(), buffer.size(), area.data(), area.size());
     auto ran = hubqr_run(restored.turn, 1, area.data(), area.size());
-    return factored.number == HUBQR_ACCEPTED && factored.heard == 1 && factored.clamps == 0 &&
-           restored.number == HUBQR_ACCEPTED && restored.turn == HUBQR_TURNS && ran.number == HUBQR_ACCEPTED &&
-           ran.turn == HUBQR_TURNS && ran.count == 0 && ran.clamps == 0;
+    bool unclamped = factored.clamps_r == 0 && factored.clamps_q == 0 && ran.clamps_r == 0 && ran.clamps_q == 0;
+    return factored.number == HUBQR_ACCEPTED && factored.heard == 1 && restored.number == HUBQR_ACCEPTED &&
+           restored.turn == HUBQR_TURNS && ran.number == HUBQR_ACCEPTED && ran.turn == HUBQR_TURNS && ran.count == 0 && unclamped;
+}
+
+// Words as large as they can be in the last column, which holds Q, are cut once.
+static bool clamped()
+{
+    area.fill(1000);
+    area[HUBQR_AREA_COLUMNS * 14 + 31] = area[HUBQR_AREA_COLUMNS * 15 + 31] = INT32_MAX;
+    auto ran = hubqr_run(119, 1, area.data(), area.size());
+    return ran.number == HUBQR_ACCEPTED && ran.count == 1 && ran.clamps_r == 0 && ran.clamps_q == 1;
 }
 
 static bool refused()
@@ -33,7 +42,7 @@ static bool refused()
 int main()
 {
     bool named = hubqr_version() == HUBQR_VERSION && hubqr_refusal_words(HUBQR_ACCEPTED) == std::string_view("accepted");
-    bool holds = accepted() && refused() && named;
+    bool holds = accepted() && clamped() && refused() && named;
     std::puts(holds ? "hubqr C++ face: passed" : "hubqr C++ face: FAILED");
     return holds ? 0 : 1;
 }

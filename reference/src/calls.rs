@@ -5,6 +5,7 @@
 use std::sync::LazyLock;
 
 use crate::area::{WorkArea, AREA_WORDS};
+use crate::clamps::Clamps;
 use crate::matrix::Matrix;
 use crate::records::{parse_matrix, parse_result, write_result, RESULT_RECORD};
 use crate::replies::{FetchReply, LoadReply, ReadReply, Refusal, RunReply, WholeReply};
@@ -106,7 +107,7 @@ fn accept_whole(record: &[u8], area: &mut [i32], buffer: &mut [u8]) -> Result<Wh
 }
 
 /// Makes `count` turns from turn number `first` on, and answers their clamps.
-fn make_turns(work: &mut WorkArea, first: u32, count: u32) -> u32 {
+fn make_turns(work: &mut WorkArea, first: u32, count: u32) -> Clamps {
     let turns = SCHEDULE.iter().skip(first as usize).take(count as usize);
     turns.map(|&turn| rotate(work, turn)).sum()
 }
@@ -248,7 +249,7 @@ mod tests {
         let accepted = WholeReply {
             number: 0,
             heard: 255,
-            clamps: 0,
+            clamps: Clamps::NONE,
         };
         assert_eq!(whole(&matrix_record(1), full, buffer), accepted);
     }

@@ -13,6 +13,7 @@ pub mod accuracy;
 pub mod area;
 pub mod calls;
 pub mod cases;
+pub mod clamps;
 pub mod listing;
 pub mod matrix;
 pub mod program;

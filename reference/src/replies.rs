@@ -1,5 +1,7 @@
 //! The refusal numbers and the replies of the five calls.
 
+use crate::clamps::Clamps;
+
 /// Why a call was refused. The discriminants are the numbers that are answered.
 #[derive(Debug, Clone, Copy, PartialEq, Eq)]
 #[repr(u8)]
@@ -43,7 +45,7 @@ pub struct RunReply {
     pub number: u8,
     pub turn: u32,
     pub count: u32,
-    pub clamps: u32,
+    pub clamps: Clamps,
 }
 
 /// Fetch's reply.
@@ -64,7 +66,7 @@ pub struct ReadReply {
 pub struct WholeReply {
     pub number: u8,
     pub heard: u8,
-    pub clamps: u32,
+    pub clamps: Clamps,
 }
 
 impl From<Refusal> for LoadReply {

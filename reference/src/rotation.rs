@@ -1,6 +1,7 @@
 //! One turn: a Givens rotation by CORDIC micro-steps.
 
 use crate::area::{WorkArea, COLUMNS};
+use crate::clamps::Clamps;
 use crate::schedule::Turn;
 
 /// Micro-steps of a rotation.
@@ -65,32 +66,34 @@ fn saturate(word: i64) -> (i32, bool) {
 }
 
 /// Makes one turn on the area and answers the clamps it counted.
-pub fn rotate(area: &mut WorkArea, turn: Turn) -> u32 {
+pub fn rotate(area: &mut WorkArea, turn: Turn) -> Clamps {
     let Turn {
         column: leading,
         upper,
         lower,
     } = turn;
     let rotation = Rotation::clearing(area.word(upper, leading), area.word(lower, leading));
-    let mut clamps = 0;
+    let mut clamps = Clamps::NONE;
     for column in leading..COLUMNS {
         let (u, v) = rotation.apply(area.word(upper, column), area.word(lower, column));
-        clamps += store(area, upper, column, u);
+        store(area, upper, column, u, &mut clamps);
         if column == leading {
             // The rotation leaves a rest of a few units here; it is dropped and never counts.
             area.set_word(lower, column, 0);
         } else {
-            clamps += store(area, lower, column, v);
+            store(area, lower, column, v, &mut clamps);
         }
     }
     clamps
 }
 
-/// Scales, clamps and stores a rotated word; answers 1 for a clamp and 0 for none.
-fn store(area: &mut WorkArea, row: usize, column: usize, word: i64) -> u32 {
+/// Scales, clamps and stores a rotated word, and counts it if clamping altered it.
+fn store(area: &mut WorkArea, row: usize, column: usize, word: i64, clamps: &mut Clamps) {
     let (stored, clamped) = saturate(scale(word));
     area.set_word(row, column, stored);
-    u32::from(clamped)
+    if clamped {
+        clamps.count(column);
+    }
 }
 
 #[cfg(test)]
@@ -105,7 +108,7 @@ mod tests {
     };
 
     /// Rotates an area of zeros but for the leading pair, and answers the pair and the clamps.
-    fn rotate_pair(upper: i32, lower: i32) -> (i32, i32, u32) {
+    fn rotate_pair(upper: i32, lower: i32) -> (i32, i32, Clamps) {
         let mut area = WorkArea::from_words(&[0; AREA_WORDS]);
         area.set_word(14, 14, upper);
         area.set_word(15, 14, lower);
@@ -122,14 +125,14 @@ mod tests {
     #[test]
     fn a_half_is_rounded_up() {
         assert_eq!(scale(268_435_456), 163_008_219);
-        assert_eq!(rotate_pair(-163_008_213, 0), (163_008_219, 0, 0));
+        assert_eq!(rotate_pair(-163_008_213, 0), (163_008_219, 0, Clamps::NONE));
     }
 
     #[test]
     fn marked_cases_m10_to_m12() {
-        assert_eq!(rotate_pair(1, 0), (17, 0, 0));
-        assert_eq!(rotate_pair(0, 1), (1, 0, 0));
-        assert_eq!(rotate_pair(-1, 0), (17, 0, 0));
+        assert_eq!(rotate_pair(1, 0), (17, 0, Clamps::NONE));
+        assert_eq!(rotate_pair(0, 1), (1, 0, Clamps::NONE));
+        assert_eq!(rotate_pair(-1, 0), (17, 0, Clamps::NONE));
     }
 
     #[test]
@@ -149,7 +152,8 @@ mod tests {
 
     #[test]
     fn the_largest_leading_pair_counts_one_clamp() {
-        assert_eq!(rotate_pair(i32::MIN, i32::MIN), (i32::MAX, 0, 1));
+        let one = Clamps { r: 1, q: 0 };
+        assert_eq!(rotate_pair(i32::MIN, i32::MIN), (i32::MAX, 0, one));
     }
 
     #[test]

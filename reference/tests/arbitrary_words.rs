@@ -2,50 +2,16 @@
 
 mod common;
 
+use common::words::arbitrary_area;
 use common::{Both, Case};
 use reference::area::AREA_WORDS;
-use reference::random::Random;
+use reference::clamps::Clamps;
 
 const AREAS: u64 = 4000;
 
-/// How words are drawn.
-#[derive(Clone, Copy)]
-enum Words {
-    Any,
-    Ends,
-    NearPowers,
-    Small,
-}
-
-impl Words {
-    const ALL: [Words; 4] = [Words::Any, Words::Ends, Words::NearPowers, Words::Small];
-
-    fn draw(self, random: &mut Random) -> i32 {
-        match self {
-            Words::Any => random.word(),
-            Words::Ends => random.choose(&[i32::MIN, i32::MIN + 1, -1, 0, 1, i32::MAX]),
-            Words::NearPowers => {
-                let power = 1 << random.below(32);
-                let word = power + random.between(-1, 1);
-                (if random.one_in(2) { word } else { -word }) as i32
-            }
-            Words::Small => random.between(-20, 20) as i32,
-        }
-    }
-}
-
-/// An area of one way of drawing, or with the ways mixed word by word.
-fn arbitrary_area(random: &mut Random) -> [i32; AREA_WORDS] {
-    let only = Words::ALL.get(random.below(5)).copied();
-    std::array::from_fn(|_| {
-        let words = only.unwrap_or_else(|| random.choose(&Words::ALL));
-        words.draw(random)
-    })
-}
-
 #[test]
 fn arbitrary_words_saturate_alike() {
-    let (mut runs, mut clamps) = (0, 0u64);
+    let (mut runs, mut clamps) = (0, Clamps::NONE);
     for number in 0..AREAS {
         let case = Case::of_words("arbitrary words", 101, number);
         let mut random = case.random();
@@ -61,14 +27,16 @@ fn arbitrary_words_saturate_alike() {
             let budget = random.choose(&[1, 12, 119, 120, 65535]);
             let reply = both.run(turn, random.between(0, budget) as u16);
             runs += 1;
-            clamps += u64::from(reply.clamps);
+            clamps += reply.clamps;
             turn = reply.turn;
         }
         both.fetch(turn);
     }
-    println!("\n{AREAS} areas of arbitrary words: {runs} runs with {clamps} clamps");
+    let Clamps { r, q } = clamps;
+    println!("\n{AREAS} areas of arbitrary words: {runs} runs, {r} clamps in R, {q} in Q");
     assert!(runs >= 2000);
-    assert!(clamps >= 100_000, "saturation hardly happened");
+    assert!(r >= 100_000, "saturation hardly happened in R");
+    assert!(q >= 100_000, "saturation hardly happened in Q");
 }
 
 #[test]
@@ -91,7 +59,9 @@ fn areas_with_one_word_in_every_place() {
         both.fill_area(&[word; AREA_WORDS]);
         let reply = both.run(0, 120);
         let clamped = word == i32::MIN || word == i32::MAX;
-        both.require(clamped == (reply.clamps > 0), "only the ends are clamped");
+        for side in [reply.clamps.r, reply.clamps.q] {
+            both.require(clamped == (side > 0), "only the ends are clamped");
+        }
         let reply = both.fetch(120);
         both.require(reply.number == 0, "120 turns left no triangle");
     }

@@ -10,6 +10,7 @@ use common::{Both, Case};
 use reference::accuracy::{Errors, BOUND};
 use reference::area::AREA_WORDS;
 use reference::cases::{edges, Kind};
+use reference::clamps::Clamps;
 use reference::matrix::Matrix;
 use reference::random::Random;
 use reference::records::{write_matrix, write_result, RESULT_RECORD};
@@ -148,7 +149,7 @@ fn work_in_instalments(both: &mut Both, random: &mut Random) {
             number: 0,
             turn,
             count: turn - before,
-            clamps: 0,
+            clamps: Clamps::NONE,
         };
         let reply = both.run(before, allowance);
         both.require(reply == expected, "Run answers something else than its sum");
@@ -232,7 +233,7 @@ fn check_whole(case: &Case, record: &[u8], fetched: &[u8]) {
     let mut other = Both::new(case.clone());
     let reply = other.whole(record);
     other.require(
-        reply.number == 0 && reply.clamps == 0,
+        reply.number == 0 && reply.clamps == Clamps::NONE,
         "Whole refused or clamped",
     );
     other.require(

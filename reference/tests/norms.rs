@@ -5,6 +5,7 @@ mod common;
 
 use common::{Both, Case};
 use reference::area::{WorkArea, AREA_WORDS, COLUMNS, ROWS};
+use reference::clamps::Clamps;
 use reference::random::Random;
 use reference::rotation::GAIN;
 use reference::schedule::{self, Turn, TURNS};
@@ -139,7 +140,7 @@ struct Met {
     inside: u64,
     /// Areas with at least one column above it.
     outside: u64,
-    clamps: u32,
+    clamps: Clamps,
 }
 
 /// The largest sum of squares of a column over these rows, from the leading column on.
@@ -156,7 +157,7 @@ where
 {
     /// Compares areas for each norm and each way of lying outside of it.
     fn compare(&self) {
-        let (mut number, mut clamps) = (0, 0);
+        let (mut number, mut clamps) = (0, Clamps::NONE);
         println!("\nAreas with {} next to a norm:", self.test);
         for norm in NORMS {
             let mut met = Met::default();
@@ -174,8 +175,10 @@ where
             assert!(outside >= 4 * AREAS_PER_NORM, "few areas outside of {norm}");
             clamps += met.clamps;
         }
-        println!("{number} areas, {clamps} clamps");
-        assert!(clamps > 0, "the norms that clamp were not reached");
+        let Clamps { r, q } = clamps;
+        println!("{number} areas, {r} clamps in R, {q} in Q");
+        assert!(r > 0, "the norms that clamp were not reached in R");
+        assert!(q > 0, "the norms that clamp were not reached in Q");
     }
 
     fn compare_one(&self, number: u64, norm: u64, outside: Outside, met: &mut Met) {
@@ -238,7 +241,8 @@ fn leading_words_at_the_end_of_the_range_agree() {
         let mut both = Both::new(case);
         both.fill_area(&words);
         let reply = both.run(119, 1);
-        match (both.area().word(14, 14), reply.clamps) {
+        both.require(reply.clamps.q == 0, "a word 0 of Q was clamped");
+        match (both.area().word(14, 14), reply.clamps.r) {
             (i32::MAX, 0) => at_end += 1,
             (i32::MAX, _) => clamped += 1,
             _ => below += 1,

@@ -56,6 +56,17 @@ fn the_run_only_cases_are_there() {
 }
 
 #[test]
+fn no_run_of_the_listing_clamps_on_either_side() {
+    let listing = listing();
+    let mut runs = 0;
+    for line in listing.lines().filter(|line| line.contains("Run of ")) {
+        assert!(line.contains(", clamps 0 in R, 0 in Q; "), "{line}");
+        runs += 1;
+    }
+    assert!(runs > 0);
+}
+
+#[test]
 fn a_record_of_258_bytes_leaves_the_memory_as_it_was() {
     let listing = listing();
     let lines: Vec<&str> = listing.lines().collect();

@@ -11,14 +11,14 @@ use Rattle.integers.specs.Within.{Within}
 use Rattle.lists.specs.Lists.{filled}
 use Rattle.lists.specs.Histories.{Place, Point}
 use Rattle.lists.proofs.Histories.{kept-at, kept-before}
-use Rattle.rotation.specs.declared.Tally.{Tally}
-use Rattle.rotation.specs.Tally.{noTally}
+use Rattle.rotation.specs.declared.Saturations.{Saturations}
+use Rattle.rotation.specs.Saturations.{noSaturations}
 use Rattle.schedule.specs.Schedule.{rotationAt}
 use Rattle.matrix_record.specs.MatrixRecord.{realEntry}
 use Rattle.result_record.specs.ResultRecord.{resultByte, resultRecord}
 use Rattle.workspace.specs.Workspace.{R, Q}
 use Rattle.workspace.specs.Loading.{loadedWords}
-use Rattle.workspace.specs.Rotations.{workspaceTally, rotationsMade, rotationsTally}
+use Rattle.workspace.specs.Rotations.{workspaceSaturations, rotationsMade, saturationsCounted}
 use Rattle.engine.specs.Load.{loadOf, loadBy}
 use Rattle.engine.specs.Run.{RunOutcome, runMade, runBy, runOf}
 use Rattle.engine.specs.Fetch.{fetchRefusal, fetchBy, fetchOf}
@@ -31,7 +31,7 @@ use Rattle.accuracy.proofs.Finished.{finished}
 
 -- ---- a Run is refused, or it is accepted
 
-pub run-cases : (number n budget : ℕ) (l : List ℤ) (P : ℕ → RunOutcome → Type 0) → ((m : ℕ) → P (suc m) (record { reply = record { number = suc m; turn = n; count = 0; clamps = 0 }; workspace = l }))
+pub run-cases : (number n budget : ℕ) (l : List ℤ) (P : ℕ → RunOutcome → Type 0) → ((m : ℕ) → P (suc m) (record { reply = record { number = suc m; turn = n; count = 0; «clamps_r» = 0; «clamps_q» = 0 }; workspace = l }))
     → P 0 (runMade n (min budget (120 - n)) l) → P number (runBy number n budget l)
 unfolding runBy
 run-cases zero n budget l P refused made = made
@@ -55,10 +55,10 @@ module _ (l : Load) where
   room = loaded-room (l .bytes) (l .small) (l .lent) lent-room
 
   -- the rotations count nothing
-  rotation-none : (k : ℕ) → k < 120 → workspaceTally (rotationAt k) (workspaceAfter (first l) k) ≡ noTally
+  rotation-none : (k : ℕ) → k < 120 → workspaceSaturations (rotationAt k) (workspaceAfter (first l) k) ≡ noSaturations
   rotation-none = made-uncounted (first l) room (loaded-short (l .bytes) (l .small) (l .lent) lent-room)
 
-  rotations-none : (j k : ℕ) → j + k ≤ 120 → rotationsTally j k (workspaceAfter (first l) j) ≡ noTally
+  rotations-none : (j k : ℕ) → j + k ≤ 120 → saturationsCounted j k (workspaceAfter (first l) j) ≡ noSaturations
   rotations-none = more-uncounted (first l) room (loaded-short (l .bytes) (l .small) (l .lent) lent-room)
 
   -- the products of columns after each of them
@@ -103,9 +103,9 @@ module _ (l : Load) (s : State) (h : Standing l s) where
       ap (λ (a : List ℤ). rotationsMade (s .turn) (min budget (120 - s .turn)) a) workspace-at
       ∙ after-more (first l) (room l) (s .turn) (min budget (120 - s .turn)) ∙ ap (workspaceAfter (first l)) (rotations budget)
 
-  run-uncounted : (budget : ℕ) → rotationsTally (s .turn) (min budget (120 - s .turn)) (s .workspace) ≡ noTally
+  run-uncounted : (budget : ℕ) → saturationsCounted (s .turn) (min budget (120 - s .turn)) (s .workspace) ≡ noSaturations
   run-uncounted budget =
-      ap (rotationsTally (s .turn) (min budget (120 - s .turn))) workspace-at
+      ap (saturationsCounted (s .turn) (min budget (120 - s .turn))) workspace-at
       ∙ rotations-none l (s .turn) (min budget (120 - s .turn)) (omega (arith, h .turn))
 
   -- the workspace is worked to the end
@@ -132,7 +132,7 @@ module _ (l : Load) (s : State) (h : Standing l s) where
   -- ---- a Run, in step if it is accepted
   module _ (r : RunCall) (p : Accepted s (run r) → InStep s (run r)) where
     -- it is refused, or it has the rotation number in step and the workspace that Load filled
-    by-cases : (P : RunCall → ℕ → RunOutcome → Type 0) → ((m : ℕ) → P r (suc m) (record { reply = record { number = suc m; turn = r .turn; count = 0; clamps = 0 }; workspace = wordsOf s (r .lent) }))
+    by-cases : (P : RunCall → ℕ → RunOutcome → Type 0) → ((m : ℕ) → P r (suc m) (record { reply = record { number = suc m; turn = r .turn; count = 0; «clamps_r» = 0; «clamps_q» = 0 }; workspace = wordsOf s (r .lent) }))
         → P (record { turn = s .turn; budget = r .budget; lent = loaded }) 0 (runMade (s .turn) (min (r .budget) (120 - s .turn)) (s .workspace))
         → P r (refusal s (run r)) (ran s r)
     unfolding runOf
@@ -149,9 +149,10 @@ module _ (l : Load) (s : State) (h : Standing l s) where
     run-standing = by-cases (λ x n o. Standing l (moved s x o)) (λ m. rw (left-same s (r .lent)) h)
         (record { workspace = run-words (r .budget); turn = rotations (r .budget) })
 
-    no-run-clamps : reply s r .clamps ≡ 0
+    no-run-clamps : (reply s r .«clamps_r» ≡ 0) × (reply s r .«clamps_q» ≡ 0)
     unfolding runMade
-    no-run-clamps = by-cases (λ x n o. o .reply .clamps ≡ 0) (λ m. refl) (ap (λ (t : Tally). t .saturations) (run-uncounted (r .budget)))
+    no-run-clamps = by-cases (λ x n o. (o .reply .«clamps_r» ≡ 0) × (o .reply .«clamps_q» ≡ 0)) (λ m. (refl, refl))
+        (ap (λ (t : Saturations). t .r) (run-uncounted (r .budget)), ap (λ (t : Saturations). t .q) (run-uncounted (r .budget)))
 
     turn-number : Accepted s (run r) → reply s r .turn ≡ min 120 (s .granted + r .budget)
     unfolding runMade
@@ -176,7 +177,7 @@ fetch-written s f z e = fetch-filled s f z ∙ ap (λ (w : List ℤ). filled 204
 pub demand3 : Demand3
 unfolding EachInStep
 demand3 l calls each = record {
-  no-turn-clamps = λ p k h. rw first-is (ap (λ (t : Tally). t .saturations) (rotation-none l k (omega arith)));
+  no-turn-clamps = λ p k h. rw first-is (rotation-none l k (omega arith));
   no-run-clamps = λ r p. no-run-clamps l (found l p) (at p) r (each (run r) p);
   turn-number = λ r p. turn-number l (found l p) (at p) r (each (run r) p);
   fetch-accepted = λ f p. fetch-iff l (found l p) (at p) f;

@@ -9,14 +9,13 @@ use Rattle.lists.specs.Histories.{afterAll}
 use Rattle.matrix_record.specs.MatrixRecord.{realEntry, heardByte}
 use Rattle.result_record.specs.ResultRecord.{resultRecord}
 use Rattle.workspace.specs.Workspace.{R, Q}
-use Rattle.workspace.specs.Rotations.{rotationsTally}
 use Rattle.engine.specs.declared.whole.WholeReply.{WholeReply}
 use Rattle.engine.specs.Load.{loadOf, loadBy}
 use Rattle.engine.specs.Run.{RunOutcome, runMade}
 use Rattle.engine.specs.Whole.{WholeOutcome, wholeRefusal, wholeDone, wholeBy, wholeOf}
 use Rattle.engine.proofs.Accepted.{load-passes, whole-accepted}
 use Rattle.accuracy.specs.Factorization.{Factorization}
-use Rattle.accuracy.specs.Demand3.{run, fetch, State, fetched, after, Load, start, reply, Kept}
+use Rattle.accuracy.specs.Demand3.{run, fetch, State, fetched, Load, start, reply, Kept}
 use Rattle.accuracy.specs.WholeDemand3.{wholeRun, wholeFetch, wholeCalls, WholeKept, WholeDemand3}
 use Rattle.accuracy.proofs.Demand3.{first, start-is, fetch-written, demand3}
 use Rattle.accuracy.proofs.Possible.{ended, ended-is, run-made, fetch-in-step, fetch-taken, alone}
@@ -44,17 +43,19 @@ module _ (l : Load) (buffer : List ℕ) (space : 2049 ≤ length buffer) (passed
   unfolding loadOf loadBy
   heard = rw (l .accepted)
 
-  clamps : reply (start l) wholeRun .clamps ≡ rotationsTally 0 120 (first l) .saturations
-  unfolding runMade
-  clamps = ap (λ (s : State). reply s wholeRun .clamps) (start-is l) ∙ ap (λ (o : RunOutcome). o .reply .clamps) (run-made l)
+  run-reply : reply (start l) wholeRun ≡ runMade 0 120 (first l) .reply
+  run-reply = ap (λ (s : State). reply s wholeRun) (start-is l) ∙ ap (λ (o : RunOutcome). o .reply) (run-made l)
 
-  answer : wholeOf (l .bytes) (l .lent) buffer .reply ≡ record { number = 0; heard = loadOf (l .bytes) (l .lent) .reply .heard; clamps = reply (start l) wholeRun .clamps }
-  unfolding wholeDone
-  answer = ap (λ (o : WholeOutcome). o .reply) whole-is ∙ rw (heard, clamps)
+  answer : wholeOf (l .bytes) (l .lent) buffer .reply
+      ≡ record { number = 0; heard = loadOf (l .bytes) (l .lent) .reply .heard; «clamps_r» = reply (start l) wholeRun .«clamps_r»; «clamps_q» = reply (start l) wholeRun .«clamps_q» }
+  unfolding wholeDone runMade
+  answer = ap (λ (o : WholeOutcome). o .reply) whole-is ∙ rw (heard, run-reply)
 
-  no-clamps : wholeOf (l .bytes) (l .lent) buffer .reply .clamps ≡ 0
+  no-clamps : (wholeOf (l .bytes) (l .lent) buffer .reply .«clamps_r» ≡ 0) × (wholeOf (l .bytes) (l .lent) buffer .reply .«clamps_q» ≡ 0)
   unfolding afterAll
-  no-clamps = ap (λ (w : WholeReply). w .clamps) answer ∙ kept .no-run-clamps wholeRun (record { before = []; rest = fetch (wholeFetch buffer) ∷ []; is = refl })
+  no-clamps =
+      let none = kept .no-run-clamps wholeRun (record { before = []; rest = fetch (wholeFetch buffer) ∷ []; is = refl }) in
+      (ap (λ (w : WholeReply). w .«clamps_r») answer ∙ none .0, ap (λ (w : WholeReply). w .«clamps_q») answer ∙ none .1)
 
   factored : Factorization (realEntry (l .bytes)) (R (wholeOf (l .bytes) (l .lent) buffer .workspace)) (Q (wholeOf (l .bytes) (l .lent) buffer .workspace))
   unfolding afterAll

@@ -6,12 +6,12 @@ use native.Mathlib.Nat.{zero-add}
 use native.Mathlib.Omega.{arith}
 use lib.IntN.{ℤ, natAbs}
 use lib.ListN.{length}
-use Rattle.rotation.specs.Tally.{noTally}
-use Rattle.rotation.proofs.Tallies.{tallied-none}
+use Rattle.rotation.specs.Saturations.{noSaturations}
+use Rattle.rotation.proofs.Counts.{none-added}
 use Rattle.schedule.specs.Schedule.{rotationAt}
 use Rattle.schedule.proofs.Clear.{rotation-shape}
 use Rattle.workspace.specs.Workspace.{wordIn}
-use Rattle.workspace.specs.Rotations.{workspaceRotated, workspaceTally, rotationsMade, rotationsTally}
+use Rattle.workspace.specs.Rotations.{workspaceRotated, workspaceSaturations, rotationsMade, saturationsCounted}
 use Rattle.workspace.proofs.Products.{gram, GivensStep}
 use Rattle.workspace.proofs.GivensStep.{givens-step, workspace-uncounted}
 use Rattle.workspace.proofs.RotationsMade.{made-length, made-more}
@@ -44,13 +44,13 @@ module _ (l : List ℤ) (room : 512 ≤ length l) where
   after-more j k = rw (zero-add j) at (made-more 0 j k l)
 
   module _ (start : (a : ℕ) → a < 32 → natAbs (gram (wordIn (workspaceAfter l 0)) a a) ≤ 2 ^ 60) where
-    pub made-uncounted : (k : ℕ) → k < 120 → workspaceTally (rotationAt k) (workspaceAfter l k) ≡ noTally
+    pub made-uncounted : (k : ℕ) → k < 120 → workspaceSaturations (rotationAt k) (workspaceAfter l k) ≡ noSaturations
     made-uncounted k h =
         let s = rotation-shape k h in
         workspace-uncounted (rotationAt k) (workspaceAfter l k) (s .0) (s .1) (s .2) (omega (arith, after-length k (omega arith)))
         (pair-norm-kept (λ (k : ℕ). wordIn (workspaceAfter l k)) after-rotated start k h)
 
-    pub more-uncounted : (j k : ℕ) → j + k ≤ 120 → rotationsTally j k (workspaceAfter l j) ≡ noTally
-    unfolding rotationsTally
+    pub more-uncounted : (j k : ℕ) → j + k ≤ 120 → saturationsCounted j k (workspaceAfter l j) ≡ noSaturations
+    unfolding saturationsCounted
     more-uncounted j zero h = refl
-    more-uncounted j (suc k) h = rw (more-uncounted j k (omega arith), after-more j k, made-uncounted (j + k) (omega arith)) (tallied-none noTally)
+    more-uncounted j (suc k) h = rw (more-uncounted j k (omega arith), after-more j k, made-uncounted (j + k) (omega arith)) (none-added noSaturations)

@@ -1,5 +1,6 @@
--- Demand 3, as document 01's "Lists of calls" spells it out: one statement about every list of later calls after an accepted Load. Each call does
--- what its own definition says (`loadOf`, `runOf`, `fetchOf`), which the contracts of the calls equate the code with. Assumes nothing.
+-- Demand 3, as document 01's "Lists of calls" spells it out, with the clamps by side (document 02, U1): one statement about every list of later calls
+-- after an accepted Load. Each call does what its own definition says (`loadOf`, `runOf`, `fetchOf`), which the contracts of the calls equate the code
+-- with. Assumes nothing.
 use mathlib.Core.Path.{_≡_}
 use mathlib.Core.Logic.{_↔_}
 use mathlib.Core.List.{List, _++_}
@@ -9,11 +10,12 @@ use lib.ListN.{length, getD, drop}
 use Rattle.integers.specs.Within.{Within}
 use Rattle.integers.specs.Sum.{sum}
 use Rattle.lists.specs.Histories.{afterAll, Place, Point, Each}
+use Rattle.rotation.specs.Saturations.{noSaturations}
 use Rattle.schedule.specs.Schedule.{rotationCount, rotationAt}
 use Rattle.matrix_record.specs.MatrixRecord.{realEntry}
 use Rattle.result_record.specs.ResultRecord.{resultBytes, resultRecord}
 use Rattle.workspace.specs.Workspace.{wordIn, R, Q}
-use Rattle.workspace.specs.Rotations.{workspaceTally, rotationsMade}
+use Rattle.workspace.specs.Rotations.{workspaceSaturations, rotationsMade}
 use Rattle.engine.specs.declared.run.RunReply.{RunReply}
 use Rattle.engine.specs.Load.{loadRefusal, loadOf}
 use Rattle.engine.specs.Run.{RunOutcome, runRefusal, runOf}
@@ -157,10 +159,10 @@ columnsProduct l a b = sum 16 (λ i. wordIn l i a *ℤ wordIn l i b)
 
 -- what is promised of a list of calls
 pub record Kept (l : Load) (calls : List Call) : Type 0 where
-  -- no word is ever clamped: step 4 counts none in any turn made, and every Run, a refused one too, answers 0 clamps
+  -- no word is ever clamped: step 4 counts none on either side in any turn made, and every Run, a refused one too, answers 0 clamps in R and 0 in Q
   pub no-turn-clamps : (p : Point calls) (k : ℕ) → k < min rotationCount (reached l p .granted)
-      → workspaceTally (rotationAt k) (workspaceAfter (start l .workspace) k) .saturations ≡ 0
-  pub no-run-clamps : (r : RunCall) (p : Place (run r) calls) → reply (found l p) r .clamps ≡ 0
+      → workspaceSaturations (rotationAt k) (workspaceAfter (start l .workspace) k) ≡ noSaturations
+  pub no-run-clamps : (r : RunCall) (p : Place (run r) calls) → (reply (found l p) r .«clamps_r» ≡ 0) × (reply (found l p) r .«clamps_q» ≡ 0)
   -- each accepted Run answers the smaller of 120 and the sum of the allowances of the accepted Runs so far, its own included
   pub turn-number : (r : RunCall) (p : Place (run r) calls) → Accepted (found l p) (run r)
       → reply (found l p) r .turn ≡ min rotationCount (found l p .granted + r .budget)

@@ -1,4 +1,5 @@
--- Demand 3 for an accepted Whole, as document 01 has it: its list is a Run of allowance 120 and then a Fetch. Assumes nothing.
+-- Demand 3 for an accepted Whole, as document 01 has it, with the clamps by side (document 02, U1): its list is a Run of allowance 120 and then a
+-- Fetch. Assumes nothing.
 use mathlib.Core.Path.{_≡_}
 use mathlib.Core.List.{List, [], _∷_}
 use Prim.Native.Nat.{ℕ, _<_}
@@ -27,11 +28,16 @@ pub record WholeKept (l : Load) (buffer : List ℕ) : Type 0 where
   pub kept : Kept l (wholeCalls buffer)
   pub accepted : Accepted (after (start l) (run wholeRun)) (fetch (wholeFetch buffer))
   pub answer : wholeOf (l .bytes) (l .lent) buffer .reply
-      ≡ record { number = 0; heard = loadOf (l .bytes) (l .lent) .reply .heard; clamps = reply (start l) wholeRun .clamps }
+      ≡ record {
+        number = 0;
+        heard = loadOf (l .bytes) (l .lent) .reply .heard;
+        «clamps_r» = reply (start l) wholeRun .«clamps_r»;
+        «clamps_q» = reply (start l) wholeRun .«clamps_q»;
+      }
   pub words : wholeOf (l .bytes) (l .lent) buffer .workspace ≡ afterAll after (start l) (wholeCalls buffer) .workspace
   pub written : wholeOf (l .bytes) (l .lent) buffer .buffer ≡ fetched (after (start l) (run wholeRun)) (wholeFetch buffer)
   -- so all of demand 3 holds of what Whole leaves: no word is clamped, and the matrix is worked to the end
-  pub no-clamps : wholeOf (l .bytes) (l .lent) buffer .reply .clamps ≡ 0
+  pub no-clamps : (wholeOf (l .bytes) (l .lent) buffer .reply .«clamps_r» ≡ 0) × (wholeOf (l .bytes) (l .lent) buffer .reply .«clamps_q» ≡ 0)
   pub factored : Factorization (realEntry (l .bytes)) (R (wholeOf (l .bytes) (l .lent) buffer .workspace)) (Q (wholeOf (l .bytes) (l .lent) buffer .workspace))
 
 abbrev pub WholeDemand3 : Type 0

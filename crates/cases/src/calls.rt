@@ -27,11 +27,12 @@ pub fn run(turn: u32, allowance: u16, area: &mut [i32]) -> u32 {
         reply.number as u64,
         reply.turn as u64,
         reply.count as u64,
-        reply.clamps as u64,
+        reply.clamps_r as u64,
+        reply.clamps_q as u64,
         digest::of_words(area),
     ];
     print::line(
-        b"  Run of % from turn %: number %, next turn %, turns made %, clamps %; area %\n",
+        b"  Run of % from turn %: number %, next turn %, turns made %, clamps % in R, % in Q; area %\n",
         &numbers,
     );
     reply.turn

@@ -5,7 +5,7 @@ use lib.IntN.{ℤ}
 use Rattle.refusals.specs.Refusals.{first}
 use Rattle.schedule.specs.Schedule.{rotationCount}
 use Rattle.workspace.specs.Workspace.{workspaceTest}
-use Rattle.workspace.specs.Rotations.{rotationsMade, rotationsTally}
+use Rattle.workspace.specs.Rotations.{rotationsMade, saturationsCounted}
 use Rattle.engine.specs.Turns.{turnTest}
 use Rattle.engine.specs.declared.run.RunReply.{RunReply}
 
@@ -17,11 +17,13 @@ pub record RunOutcome : Type 0 where
 unfoldable pub runRefusal : ℕ → List ℤ → ℕ
 runRefusal turn workspace = first (workspaceTest workspace) (turnTest turn)
 
--- `count` rotations from turn number `turn` on: the next turn number, the turns made and the clamps of this call
+-- `count` rotations from turn number `turn` on: the next turn number, and of this call the turns made and the clamps of each side
+-- (document 02, U1)
 unfoldable pub runMade : ℕ → ℕ → List ℤ → RunOutcome
 runMade turn count workspace =
+    let saturations = saturationsCounted turn count workspace in
     record {
-      reply = record { number = 0; turn = turn + count; count = count; clamps = rotationsTally turn count workspace .saturations };
+      reply = record { number = 0; turn = turn + count; count = count; «clamps_r» = saturations .r; «clamps_q» = saturations .q };
       workspace = rotationsMade turn count workspace;
     }
 
@@ -29,7 +31,7 @@ runMade turn count workspace =
 -- its number and the turn number as given, other fields 0, and changes nothing
 unfoldable pub runBy : ℕ → ℕ → ℕ → List ℤ → RunOutcome
 runBy zero turn budget workspace = runMade turn (min budget (rotationCount - turn)) workspace
-runBy (suc n) turn budget workspace = record { reply = record { number = suc n; turn = turn; count = 0; clamps = 0 }; workspace = workspace }
+runBy (suc n) turn budget workspace = record { reply = record { number = suc n; turn = turn; count = 0; «clamps_r» = 0; «clamps_q» = 0 }; workspace = workspace }
 
 unfoldable pub runOf : ℕ → ℕ → List ℤ → RunOutcome
 runOf turn budget workspace = runBy (runRefusal turn workspace) turn budget workspace

@@ -3,13 +3,14 @@ ghost use mathlib.Core.Path.{_≡_};
 ghost use Prim.Native.Nat.{min};
 ghost use Rattle.engine.specs.Run.{RunOutcome, runRefusal, runOf};
 
-// The refusal's number, the next turn number, and the turns made and the clamps of this call.
+// The refusal's number, the next turn number, and of this call the turns made, the clamps in R and the clamps in Q.
 #[repr(C)]
 pub struct RunReply {
     pub number: u8,
     pub turn: u32,
     pub count: u32,
-    pub clamps: u32,
+    pub clamps_r: u32,
+    pub clamps_q: u32,
 }
 
 // The number of the first test that fails, 0 for none.
@@ -41,13 +42,14 @@ pub fn run(turn: u32, budget: u16, workspace: &mut [i32]) -> RunReply
             number,
             turn,
             count: 0,
-            clamps: 0,
+            clamps_r: 0,
+            clamps_q: 0,
         };
     }
     let first = turn as usize;
     let left = schedule::COUNT - first;
     let count = smaller(budget as usize, left);
-    let tally = workspace::rotations::make_rotations(first, count, workspace);
+    let saturations = workspace::rotations::make_rotations(first, count, workspace);
     let after = first + count;
     let next = after as u32;
     let made = count as u32;
@@ -55,6 +57,7 @@ pub fn run(turn: u32, budget: u16, workspace: &mut [i32]) -> RunReply
         number: 0,
         turn: next,
         count: made,
-        clamps: tally.saturations,
+        clamps_r: saturations.r,
+        clamps_q: saturations.q,
     }
 }

@@ -2,12 +2,13 @@
 ghost use mathlib.Core.Path.{_≡_};
 ghost use Rattle.engine.specs.Whole.{WholeOutcome, wholeRefusal, wholeOf};
 
-// The refusal's number, the heard byte and the clamps.
+// The refusal's number, the heard byte, the clamps in R and the clamps in Q.
 #[repr(C)]
 pub struct WholeReply {
     pub number: u8,
     pub heard: u8,
-    pub clamps: u32,
+    pub clamps_r: u32,
+    pub clamps_q: u32,
 }
 
 // The number of the first test that fails, 0 for none.
@@ -39,16 +40,18 @@ pub fn whole(bytes: &[u8], workspace: &mut [i32], buffer: &mut [u8]) -> WholeRep
         return WholeReply {
             number,
             heard: 0,
-            clamps: 0,
+            clamps_r: 0,
+            clamps_q: 0,
         };
     }
     workspace::loading::fill_from_matrix(bytes, workspace);
-    let tally = workspace::rotations::make_rotations(0, schedule::COUNT, workspace);
+    let saturations = workspace::rotations::make_rotations(0, schedule::COUNT, workspace);
     workspace::result::write(workspace, buffer);
     let heard = matrix_record::heard_byte(bytes);
     WholeReply {
         number: 0,
         heard,
-        clamps: tally.saturations,
+        clamps_r: saturations.r,
+        clamps_q: saturations.q,
     }
 }

@@ -1,5 +1,5 @@
 -- Two Runs in a row, and any number of them, make what one Run with the sum of their budgets makes. Assumes nothing.
-use mathlib.Core.Path.{_≡_, refl, ap, _∙_}
+use mathlib.Core.Path.{_≡_, refl, ap, ap₂, _∙_}
 use mathlib.Core.List.{List, [], _∷_}
 use Prim.Native.Nat.{ℕ, zero, suc, _+_, _-_, _≤_, min}
 use native.Mathlib.Nat.{add-assoc}
@@ -7,24 +7,24 @@ use native.Mathlib.Omega.{arith}
 use lib.IntN.{ℤ}
 use lib.ListN.{length}
 use Rattle.lists.specs.Lists.{sumOf}
-use Rattle.rotation.specs.declared.Tally.{Tally}
-use Rattle.rotation.specs.Tally.{tallied}
-use Rattle.workspace.specs.Rotations.{rotationsMade, rotationsTally}
-use Rattle.workspace.proofs.RotationsMade.{made-length, made-more, tally-more}
-use Rattle.engine.specs.Run.{runRefusal, runMade, runBy, runOf}
+use Rattle.rotation.specs.declared.Saturations.{Saturations}
+use Rattle.rotation.specs.Saturations.{added}
+use Rattle.workspace.specs.Rotations.{rotationsMade, saturationsCounted}
+use Rattle.workspace.proofs.RotationsMade.{made-length, made-more, saturations-more}
+use Rattle.engine.specs.Run.{RunOutcome, runRefusal, runMade, runBy, runOf}
 use Rattle.engine.proofs.Accepted.{run-accepted, run-passes}
 use Rattle.engine_laws.specs.Spread.{together, thenRun, Spread, thenRuns, SpreadList}
 
--- what j turns and then k count
-counts : (turn j k : ℕ) (l : List ℤ) → rotationsTally turn j l .saturations + rotationsTally (turn + j) k (rotationsMade turn j l) .saturations ≡ rotationsTally turn (j + k) l .saturations
-unfolding tallied
-counts turn j k l = ap (λ (t : Tally). t .saturations) (tally-more turn j k l)
+-- the outcome of k turns from turn number `turn` on, by its words and counts
+outcome : ℕ → ℕ → List ℤ → Saturations → RunOutcome
+outcome turn k words t = record { reply = record { number = 0; turn = turn + k; count = k; «clamps_r» = t .r; «clamps_q» = t .q }; workspace = words }
 
 -- the same for outcomes
 run-more : (turn j k : ℕ) (l : List ℤ) → let o = runMade turn j l in let p = runMade (turn + j) k (rotationsMade turn j l) in
     record { reply = together (o .reply) (p .reply); workspace = p .workspace } ≡ runMade turn (j + k) l
-unfolding runMade
-run-more turn j k l = rw (made-more turn j k l, counts turn j k l, add-assoc turn j k)
+unfolding runMade added outcome
+run-more turn j k l =
+    rw (add-assoc turn j k) (ap₂ (outcome turn (j + k)) (made-more turn j k l) (saturations-more turn j k l))
 
 -- where the tests are passed
 accepted : (turn a b : ℕ) (l : List ℤ) → runRefusal turn l ≡ 0 → thenRun (runMade turn (min a (120 - turn)) l) b ≡ runMade turn (min (a + b) (120 - turn)) l

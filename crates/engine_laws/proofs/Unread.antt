@@ -7,11 +7,11 @@ use native.Mathlib.Omega.{arith}
 use borrow.Author.Tests.{lt-ltb, le-ltb}
 use lib.Dec.{lit≤}
 use lib.IntN.{ℤ}
-use lib.ListN.{length, take, drop, length-take}
+use lib.ListN.{length, drop, length-take}
 use lib.Seq.{take-at}
 use Rattle.lists.specs.Lists.{tabulate, filled}
 use Rattle.lists.proofs.Tabulate.{length-tabulate, length-filled}
-use Rattle.rotation.specs.declared.Tally.{Tally}
+use Rattle.rotation.specs.declared.Saturations.{Saturations}
 use Rattle.matrix_record.specs.MatrixRecord.{heardByte}
 use Rattle.result_record.specs.ResultRecord.{resultByte, resultRecord}
 use Rattle.result_record.proofs.ResultRecord.{finished-same, record-same}
@@ -19,7 +19,7 @@ use Rattle.workspace.specs.Workspace.{workspaceTest, R, Q}
 use Rattle.workspace.specs.Loading.{loadedWord, loadedWords}
 use Rattle.workspace.specs.Reading.{readWord}
 use Rattle.workspace.specs.Rotations.{rotationsMade}
-use Rattle.workspace.proofs.SameWords.{SameWords, same-words, r-same, q-same, made-same, made-take, tally-same}
+use Rattle.workspace.proofs.SameWords.{SameWords, same-words, r-same, q-same, made-same, made-take, saturations-same}
 use Rattle.engine.specs.Load.{loadRefusal, loadBy, loadOf}
 use Rattle.engine.specs.Run.{runRefusal, runMade, runBy, runOf}
 use Rattle.engine.specs.Fetch.{fetchRefusal, fetchBy, fetchOf}
@@ -77,7 +77,7 @@ module _ (l m : List ℤ) (alike : Alike l m) where
       let k : ℕ = min budget (120 - turn) in
       let within : turn + k ≤ 120 = omega (arith, s .before) in
       let same = same-words l m alike in (
-        ap (λ (t : Tally). record { number = 0; turn = turn + k; count = k; clamps = t .saturations }) (tally-same l m (s .room) (room-same (s .room)) same turn k within),
+        ap (λ (t : Saturations). record { number = 0; turn = turn + k; count = k; «clamps_r» = t .r; «clamps_q» = t .q }) (saturations-same l m (s .room) (room-same (s .room)) same turn k within),
         made-take l m (s .room) (room-same (s .room)) same turn k within,
       )
   run-by (suc n) turn budget h = (refl, alike)
@@ -99,7 +99,7 @@ module _ (l m : List ℤ) (alike : Alike l m) where
       let room : 512 ≤ length a = omega (arith, length-filled 512 (loadedWord rec) l space, space) in
       let roomy : 512 ≤ length b = omega (arith, length-filled 512 (loadedWord rec) m (room-same space), room-same space) in
       let same : SameWords a b = same-words a b (filled-alike (loadedWord rec) l m) in (
-        ap (λ (t : Tally). record { number = 0; heard = heardByte rec; clamps = t .saturations }) (tally-same a b room roomy same 0 120 (lit≤ tt)),
+        ap (λ (t : Saturations). record { number = 0; heard = heardByte rec; «clamps_r» = t .r; «clamps_q» = t .q }) (saturations-same a b room roomy same 0 120 (lit≤ tt)),
         made-take a b room roomy same 0 120 (lit≤ tt),
         buffer-same (rotationsMade 0 120 a) (rotationsMade 0 120 b) buffer (made-same a b room roomy same 0 120 (lit≤ tt)),
       )

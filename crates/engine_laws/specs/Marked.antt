@@ -1,23 +1,27 @@
 -- The marked cases M1 to M12 of document 01, "Bench values", and further ones: one table, and one statement over all its rows, computed from the
--- definitions that the contracts cite. The rows are numerals, document 01's own or worked out from its words, and use nothing of those definitions.
--- Assumes nothing.
+-- definitions that the contracts cite. The rows are numerals, document 01's own or worked out from its words and those of document 02, U1, and use
+-- nothing of those definitions. Assumes nothing.
 use mathlib.Core.Path.{_≡_, refl}
 use mathlib.Core.List.{List, [], _∷_, _++_}
 use Prim.Native.Nat.{ℕ, _+_, _-_, _*_}
 use lib.IntN.{ℤ, pos, negsuc}
 use lib.ListN.{getD, replicate}
+use Rattle.integers.specs.Sum.{total}
 use Rattle.cordic.specs.Word.{scaled, saturate}
 use Rattle.cordic.specs.MicroRotation.{oriented, orientedPair, microRotation, microRotations, leading, sign}
 use Rattle.lists.specs.Lists.{tabulate, allBelow}
 use Rattle.rotation.specs.Column.{columnAt, rotatedAt, stored, columnStored}
-use Rattle.rotation.specs.Rotated.{rotatedWord, rotated}
+use Rattle.rotation.specs.Rotated.{rotatedWord, rotated, saturationsAt, saturationsOf}
+use Rattle.rotation.specs.Saturations.{added}
 use Rattle.schedule.specs.Schedule.{stageRotations, survivors, stages, upFrom, columnStages, stagesRotations, columnsRotations, schedule, rotationAt}
 use Rattle.refusals.specs.Refusals.{headerTest}
 use Rattle.matrix_record.specs.MatrixRecord.{partOf, realEntry, zeroElement, allZero, zeroColumn, heardBelow}
 use Rattle.result_record.specs.ResultRecord.{resultWord, resultByte}
 use Rattle.workspace.specs.Loading.{loadedAt, loadedWord}
 use Rattle.workspace.specs.Workspace.{wordIn, R, Q}
+use Rattle.workspace.specs.Rotations.{workspaceSaturations, rotationsMade, saturationsCounted}
 use Rattle.engine.specs.Load.{loadRefusal, loadBy, loadOf}
+use Rattle.engine.specs.Run.{runRefusal, runMade, runBy, runOf}
 use Rattle.engine.specs.Whole.{wholeRefusal, wholeDone, wholeBy, wholeOf}
 
 pub data Case : Type 0 where
@@ -34,6 +38,9 @@ pub data Case : Type 0 where
   scales : ℤ → ℤ → Case
   -- the leading pair (x, y) of a rotation of column 0 becomes the pair (u, v)
   rotates : ℤ → ℤ → ℤ → ℤ → Case
+  -- the last turn has the leading pair (x, y), and in a further column j the pair (u, v); all other words are zero. A Run of that turn alone answers
+  -- these clamps in R and in Q
+  clamps : ℤ → ℤ → ℕ → ℤ → ℤ → ℕ → ℕ → Case
 
 -- 257 bytes: 01, and these four at position p
 abbrev pub matrixWith : ℕ → List ℕ → List ℕ
@@ -47,6 +54,13 @@ workspaceWith i j w = replicate (i * 32 + j) (pos 0) ++ w ∷ replicate (511 - (
 abbrev pub rowsOf : ℤ → ℤ → List ℤ
 rowsOf x y = x ∷ replicate 31 (pos 0) ++ y ∷ replicate 31 (pos 0)
 
+-- 16 rows of 32 words: in rows 14 and 15 the pair x, y in column 14 and the pair u, v in a column j after it
+abbrev pub lastRowsWith : ℤ → ℤ → ℕ → ℤ → ℤ → List ℤ
+lastRowsWith x y j u v = replicate 448 (pos 0) ++ lastRow x j u ++ lastRow y j v
+  where
+    lastRow : ℤ → ℕ → ℤ → List ℤ
+    lastRow x j u = replicate 14 (pos 0) ++ x ∷ replicate (j - 15) (pos 0) ++ u ∷ replicate (31 - j) (pos 0)
+
 abbrev pub Says : Case → Type 0
 Says (loads p bytes i j w) = loadedWord (matrixWith p bytes) (i * 32 + j) ≡ w
 Says (hears p bytes h) =
@@ -56,6 +70,9 @@ Says (writes i j w p bytes) = tabulate 4 (λ k. resultByte (R (workspaceWith i j
 Says (schedules n j u l) = rotationAt n ≡ record { column = j; upper = u; lower = l }
 Says (scales w x) = scaled w ≡ x
 Says (rotates x y u v) = (getD (rotated 0 1 (rowsOf x y)) 0 (pos 0) ≡ u) × (getD (rotated 0 1 (rowsOf x y)) 32 (pos 0) ≡ v)
+Says (clamps x y j u v r q) =
+    let reply = runOf 119 1 (lastRowsWith x y j u v) .reply in
+    (reply .«clamps_r» ≡ r) × (reply .«clamps_q» ≡ q)
 
 abbrev pub AllSay : List Case → Type 0
 AllSay [] = Unit {0}
@@ -118,9 +135,17 @@ cases =
     ∷ rotates (negsuc 0) (pos 0) (pos 17) (pos 0)
     -- the same rounding in a whole rotation of a negative word: its 28 micro-rotations make 2^28 of it, and -1 under it, which is stored as 0
     ∷ rotates (negsuc 163008212) (pos 0) (pos 163008219) (pos 0)
+    -- a turn by half a right angle makes of two words at the ends of the range one beyond it: the upper and the lower word of R's last column, and of
+    -- Q's first
+    ∷ clamps (pos 1048576) (pos 1048576) 15 (pos 2147483647) (pos 2147483647) 1 0
+    ∷ clamps (pos 1048576) (pos 1048576) 15 (negsuc 2147483647) (pos 2147483647) 1 0
+    ∷ clamps (pos 1048576) (pos 1048576) 16 (pos 2147483647) (pos 2147483647) 0 1
+    ∷ clamps (pos 1048576) (pos 1048576) 16 (negsuc 2147483647) (pos 2147483647) 0 1
+    -- the leading column is one of R; with it Q's last column, in the same turn
+    ∷ clamps (pos 2147483647) (pos 2147483647) 31 (pos 2147483647) (pos 2147483647) 1 1
     ∷ []
 
 pub marked : AllSay cases
-unfolding cases loadOf loadBy loadRefusal wholeOf wholeBy wholeDone wholeRefusal headerTest allZero loadedAt realEntry partOf heardBelow zeroColumn zeroElement allBelow resultByte resultWord R Q wordIn rotationAt schedule columnsRotations stagesRotations columnStages stages survivors upFrom stageRotations scaled saturate oriented orientedPair microRotation microRotations leading sign columnAt rotatedAt stored columnStored rotatedWord tabulate rotated
+unfolding cases loadOf loadBy loadRefusal wholeOf wholeBy wholeDone wholeRefusal headerTest allZero loadedAt realEntry partOf heardBelow zeroColumn zeroElement allBelow resultByte resultWord R Q wordIn rotationAt schedule columnsRotations stagesRotations columnStages stages survivors upFrom stageRotations scaled saturate oriented orientedPair microRotation microRotations leading sign columnAt rotatedAt stored columnStored rotatedWord tabulate rotated total saturationsAt saturationsOf added workspaceSaturations rotationsMade saturationsCounted runRefusal runMade runBy runOf
 marked =
-    (refl, (refl, (refl, (refl, (refl, (refl, (refl, (refl, (refl, (refl, (refl, (refl, (refl, ((refl, refl), ((refl, refl), ((refl, refl), ((refl, refl), (refl, (refl, (refl, (refl, (refl, (refl, (refl, (refl, (refl, (refl, (refl, (refl, (refl, (refl, (refl, (refl, (refl, (refl, ((refl, refl), ((refl, refl), ((refl, refl), ((refl, refl), tt)))))))))))))))))))))))))))))))))))))))
+    (refl, (refl, (refl, (refl, (refl, (refl, (refl, (refl, (refl, (refl, (refl, (refl, (refl, ((refl, refl), ((refl, refl), ((refl, refl), ((refl, refl), (refl, (refl, (refl, (refl, (refl, (refl, (refl, (refl, (refl, (refl, (refl, (refl, (refl, (refl, (refl, (refl, (refl, (refl, ((refl, refl), ((refl, refl), ((refl, refl), ((refl, refl), ((refl, refl), ((refl, refl), ((refl, refl), ((refl, refl), ((refl, refl), tt))))))))))))))))))))))))))))))))))))))))))))

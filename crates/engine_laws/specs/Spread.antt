@@ -1,7 +1,7 @@
 -- Demand 2: the turns may be made in one call or spread over many. A Run with budget a and then one with budget b, handed the turn number that the
--- first answered, leave the same words, answer the same turn number, and in total the same turns made and clamps as one Run with a + b. Where the first
--- is refused, so are the others, by the same number. The same for the budgets of any list. The turn number and the budgets are any whole numbers, and
--- the words any. Assumes nothing.
+-- first answered, leave the same words, answer the same turn number, and in total the same turns made and clamps of each side as one Run with a + b.
+-- Where the first is refused, so are the others, by the same number. The same for the budgets of any list. The turn number and the budgets are any whole
+-- numbers, and the words any. Assumes nothing.
 use mathlib.Core.Path.{_≡_}
 use mathlib.Core.List.{List, [], _∷_}
 use Prim.Native.Nat.{ℕ, _+_}
@@ -12,7 +12,14 @@ use Rattle.engine.specs.Run.{RunOutcome, runOf}
 
 -- the reply of two Runs in a row, with what they counted added up
 abbrev pub together : RunReply → RunReply → RunReply
-together r s = record { number = s .number; turn = s .turn; count = r .count + s .count; clamps = r .clamps + s .clamps }
+together r s =
+    record {
+      number = s .number;
+      turn = s .turn;
+      count = r .count + s .count;
+      «clamps_r» = r .«clamps_r» + s .«clamps_r»;
+      «clamps_q» = r .«clamps_q» + s .«clamps_q»;
+    }
 
 -- after an outcome a Run with budget b
 abbrev pub thenRun : RunOutcome → ℕ → RunOutcome

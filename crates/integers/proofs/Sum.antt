@@ -117,6 +117,12 @@ unfolding sum total
 sum-total zero g = refl
 sum-total (suc n) g = ap (λ x. x +ℤ pos (g n)) (sum-total n g)
 
+-- the same terms have the same total
+pub total-same : (n : ℕ) (f g : ℕ → ℕ) → ((k : ℕ) → k < n → f k ≡ g k) → total n f ≡ total n g
+unfolding total
+total-same zero f g h = refl
+total-same (suc n) f g h = rw (total-same n f g (λ k p. h k (omega arith)), h n (le-refl (suc n)))
+
 pub total-zero : (n : ℕ) (g : ℕ → ℕ) → ((r : ℕ) → r < n → g r ≡ 0) → total n g ≡ 0
 unfolding total
 total-zero zero g h = refl

@@ -18,9 +18,9 @@ use Rattle.cordic.specs.declared.Pair.{Pair}
 use Rattle.cordic.specs.MicroRotation.{orientedPair, microRotations}
 use Rattle.cordic.proofs.Telescope.{squares-small, near-small, kept-steps}
 use Rattle.cordic.proofs.ColumnRotation.{orient-dot}
-use Rattle.rotation.specs.Rotated.{tallyOf}
-use Rattle.rotation.specs.Tally.{noTally}
-use Rattle.rotation.proofs.Column.{tally-none}
+use Rattle.rotation.specs.Rotated.{saturationsOf}
+use Rattle.rotation.specs.Saturations.{noSaturations}
+use Rattle.rotation.proofs.Column.{saturations-none}
 use Rattle.narrow.specs.Narrow.{Bounded, normBounded, normsBounded, Narrow}
 
 -- ---- the test of the columns
@@ -41,9 +41,9 @@ unfolding normBounded
 test-none base c l h = record { within = h; held = all-of (normBounded base c l) c (λ k below. rw (lt-ltb k c below)) }
 
 -- where the test holds, the rotation counts nothing
-pub bounded-tally : (c gap : ℕ) (l : List ℤ) → normsBounded (gap * 32) c l ≡ true → tallyOf c gap l ≡ noTally
-bounded-tally c gap l h =
-    tally-none c gap l
+pub bounded-none : (c gap : ℕ) (l : List ℤ) → normsBounded (gap * 32) c l ≡ true → saturationsOf c gap l ≡ noSaturations
+bounded-none c gap l h =
+    saturations-none c gap l
     (λ k from below. within (rw (abs-squares (getD l k (pos 0)) (getD l (gap * 32 + k) (pos 0))) (bounded-at (gap * 32) c l k from h below)))
 
 -- ---- the words of such a column

@@ -1,6 +1,6 @@
 -- What a rotation stores in a column: the pair that `cordic` bounds. Where that is short, no word is saturated, so that the rotation counts none.
 -- Assumes nothing.
-use mathlib.Core.Path.{_≡_, refl, ap, _∙_}
+use mathlib.Core.Path.{_≡_, refl, _∙_}
 use mathlib.Core.Bool.{Bool, true, false, cond}
 use mathlib.Core.List.{List}
 use Prim.Native.Nat.{ℕ, _+_, _*_, _≤_, _<_, zero-le}
@@ -22,8 +22,9 @@ use Rattle.cordic.specs.Word.{saturate}
 use Rattle.cordic.proofs.Words.{saturate-fits}
 use Rattle.cordic.proofs.ColumnRotation.{rotatedPair, rotation-words, rotation-upper}
 use Rattle.rotation.specs.Column.{columnAt, rotatedAt, stored, columnStored}
-use Rattle.rotation.specs.Rotated.{saturationsAt, tallyOf}
-use Rattle.rotation.specs.Tally.{noTally}
+use Rattle.rotation.specs.Rotated.{saturationsAt, saturationsOf}
+use Rattle.rotation.specs.Saturations.{noSaturations}
+use Rattle.rotation.proofs.Counts.{sides}
 
 -- ---- saturation
 
@@ -81,9 +82,12 @@ module _ (c gap : ℕ) (l : List ℤ) where
   short-none k h n = rw (le-ltb k c h, stored-short k n) (nothing (eqb k c))
 
   -- where every column from the leading one on is short, the rotation counts nothing
-  pub tally-none : ((k : ℕ) → c ≤ k → k < 32 → Within (dot (columnBefore gap l k) (columnBefore gap l k)) normBound) → tallyOf c gap l ≡ noTally
-  unfolding tallyOf
-  tally-none short = ap (λ (n : ℕ). record { saturations = n }) (total-zero 32 (saturationsAt c gap l) (λ k h. pick k h (decLt k c)))
+  pub saturations-none : ((k : ℕ) → c ≤ k → k < 32 → Within (dot (columnBefore gap l k) (columnBefore gap l k)) normBound) → saturationsOf c gap l ≡ noSaturations
+  unfolding saturationsOf
+  saturations-none short =
+      sides
+      (total-zero 16 (saturationsAt c gap l) (λ k h. pick k (omega arith) (decLt k c)))
+      (total-zero 16 (λ j. saturationsAt c gap l (16 + j)) (λ k h. pick (16 + k) (omega arith) (decLt (16 + k) c)))
     where
       pick : (k : ℕ) → k < 32 → Dec (k < c) → saturationsAt c gap l k ≡ 0
       pick k h (yes p) = before-none k p

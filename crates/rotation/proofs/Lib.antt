@@ -2,6 +2,6 @@
 pub mod Places
 pub mod Column
 pub mod Locality
-pub mod Tallies
+pub mod Counts
 pub mod Pairs
 pub mod Stores

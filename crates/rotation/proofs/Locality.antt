@@ -3,20 +3,21 @@ use Prim.Native.Nat.{ℕ, zero, suc, _+_, _*_, _≤_, _<_}
 use native.Mathlib.Nat.{le-refl}
 use native.Mathlib.Decide.{decLt}
 use native.Mathlib.Omega.{arith}
-use mathlib.Core.Path.{_≡_, refl, sym, ap, ap₂, _∙_}
+use mathlib.Core.Path.{_≡_, refl, sym, ap₂, _∙_}
 use mathlib.Core.List.{List, _∷_}
 use lib.IntN.{ℤ, pos}
 use lib.ListN.{length, getD, replicate}
 use borrow.Author.Tests.{le-ltb}
-use Rattle.integers.specs.Sum.{total}
+use Rattle.integers.proofs.Sum.{total-same}
 use Rattle.cordic.specs.declared.Pair.{Pair}
 use Rattle.cordic.specs.Word.{saturate}
 use Rattle.cordic.proofs.ColumnRotation.{rotatedPair}
 use Rattle.rotation.specs.Column.{columnStored}
-use Rattle.rotation.specs.Rotated.{rotatedWord, rotated, saturationsAt, tallyOf}
+use Rattle.rotation.specs.Rotated.{rotatedWord, rotated, saturationsAt, saturationsOf}
 use Rattle.rotation.specs.Locality.{partWord, Agree, WordsRead, CountsRead, OtherRowsStay, ColumnsBeforeStay}
 use Rattle.rotation.proofs.Places.{word-before, rotated-at, rotated-other, rotated-before}
 use Rattle.rotation.proofs.Column.{columnBefore, stored-is, before-none}
+use Rattle.rotation.proofs.Counts.{sides}
 
 -- ---- reads
 
@@ -52,12 +53,6 @@ module _ (c gap : ℕ) (l m : List ℤ) (same : Agree c gap l m) where
       pick (yes h) = before-none c gap l j h ∙ sym (before-none c gap m j h)
       pick (no h) = rw (stored-same j (omega arith) q)
 
--- the same terms have the same sum
-total-same : (n : ℕ) (f g : ℕ → ℕ) → ((k : ℕ) → k < n → f k ≡ g k) → total n f ≡ total n g
-unfolding total
-total-same zero f g h = refl
-total-same (suc n) f g h = rw (total-same n f g (λ k p. h k (omega arith)), h n (le-refl (suc n)))
-
 pub words-read : WordsRead
 words-read c gap l m room space same j p q =
     (at 0 (omega arith) (omega arith) (same j p q .0), at gap (omega arith) (omega arith) (same j p q .1))
@@ -66,8 +61,11 @@ words-read c gap l m room space same j p q =
     at i h k e = rotated-at c gap l i j q h ∙ word-agrees c gap l m same i j q e ∙ sym (rotated-at c gap m i j q k)
 
 pub counts-read : CountsRead
-unfolding tallyOf
-counts-read c gap l m same = ap (λ (n : ℕ). record { saturations = n }) (total-same 32 (saturationsAt c gap l) (saturationsAt c gap m) (count-same-at c gap l m same))
+unfolding saturationsOf
+counts-read c gap l m same =
+    sides
+    (total-same 16 (saturationsAt c gap l) (saturationsAt c gap m) (λ j h. count-same-at c gap l m same j (omega arith)))
+    (total-same 16 (λ j. saturationsAt c gap l (16 + j)) (λ j. saturationsAt c gap m (16 + j)) (λ j h. count-same-at c gap l m same (16 + j) (omega arith)))
 
 -- the premise can be met: two parts that differ in column 0, for a rotation with leading column 1
 pub agree-possible : Agree 1 1 (pos 1 ∷ replicate 63 (pos 0)) (pos 2 ∷ replicate 63 (pos 0))

@@ -1,6 +1,6 @@
 -- What the loops of `wide` and `narrow` store and count comes to the rotation: word by word, and column by column. Assumes nothing.
 use Prim.Native.Nat.{ℕ, zero, suc, _+_, _-_, _*_, _/_, _%_, _≤_, _<_}
-use native.Mathlib.Nat.{lt-irrefl, le-refl, add-zero, add-suc, div-add-mod'}
+use native.Mathlib.Nat.{lt-irrefl, le-refl, add-zero, add-suc, add-assoc, div-add-mod'}
 use native.Mathlib.Decide.{ℕ-discrete, decLt}
 use native.Mathlib.Numerals.{add-one}
 use native.Mathlib.Omega.{arith}
@@ -16,11 +16,11 @@ use Rattle.integers.specs.Sum.{total}
 use Rattle.integers.proofs.Sum.{total-zero}
 use Rattle.cordic.specs.declared.Column.{Column}
 use Rattle.rotation.specs.Column.{columnStored}
-use Rattle.rotation.specs.Rotated.{rotatedWord, rotated, saturationsAt}
+use Rattle.rotation.specs.Rotated.{rotatedWord, rotated, saturationsAt, saturationsOf}
 use Rattle.rotation.specs.Stores.{written, leadingWritten, rowsWritten, counted, rowsCounted}
 use Rattle.rotation.proofs.Places.{word-before, word-upper, word-lower, word-zero, word-other, rotated-length, rotated-position}
 use Rattle.rotation.proofs.Column.{before-none}
-use Rattle.rotation.proofs.Tallies.{byte-le}
+use Rattle.rotation.proofs.Counts.{sides, byte-le}
 
 -- ---- only the columns that are stored matter
 
@@ -45,8 +45,13 @@ module _ (f g : ℕ → Column) (c : ℕ) (h : c < 32) (same : (k : ℕ) → c �
         written-same f g base (c + 1) (31 - c) (leadingWritten (g c .upper) base c l) (λ k p q. same k (omega arith) (omega arith)),
       )
 
-  pub count-same : rowsCounted f c ≡ rowsCounted g c
-  count-same = rw (same c (le-refl c) h, counted-same f g (c + 1) (31 - c) (λ k p q. same k (omega arith) (omega arith)))
+  pub count-same : c < 16 → rowsCounted f c ≡ rowsCounted g c
+  count-same left =
+      rw (
+        same c (le-refl c) h,
+        counted-same f g (c + 1) (15 - c) (λ k p q. same k (omega arith) (omega arith)),
+        counted-same f g 16 16 (λ k p q. same k (omega arith) q),
+      )
 
 -- n columns count 2 n words at most
 pub counted-few : (f : ℕ → Column) (c n : ℕ) → counted f c n ≤ 2 * n
@@ -55,10 +60,25 @@ counted-few f c zero = omega arith
 counted-few f c (suc n) =
     omega (arith, counted-few f c n, byte-le (f (c + n) .upper .saturated), byte-le (f (c + n) .lower .saturated))
 
+-- columns and then those behind them
+written-more : (f : ℕ → Column) (base c m n : ℕ) (l : List ℤ) → written f base (c + m) n (written f base c m l) ≡ written f base c (m + n) l
+unfolding written
+written-more f base c m zero l = ap (λ (k : ℕ). written f base c k l) (sym (add-zero m))
+written-more f base c m (suc n) l = rw (add-suc m n, written-more f base c m n l, add-assoc c m n)
+
 -- the leading column and then the others
 pub rows-of : (f : ℕ → Column) (base c : ℕ) (l lead rest : List ℤ) → lead ≡ leadingWritten (f c .upper) base c l → rest ≡ written f base (c + 1) (31 - c) lead → rest ≡ rowsWritten f base c l
 unfolding rowsWritten
 rows-of f base c l lead rest d e = e ∙ ap (written f base (c + 1) (31 - c)) d
+
+-- the leading column, the others of R, and then those of Q
+pub sides-of : (f : ℕ → Column) (base c : ℕ) (l lead left right : List ℤ) → c < 16 → lead ≡ leadingWritten (f c .upper) base c l
+    → left ≡ written f base (c + 1) (15 - c) lead → right ≡ written f base 16 16 left → right ≡ rowsWritten f base c l
+sides-of f base c l lead left right h d e g =
+    let q : c + 1 + (15 - c) ≡ 16 = omega arith in
+    let all : 15 - c + 16 ≡ 31 - c = omega arith in
+    rows-of f base c l lead right d
+    (g ∙ ap (written f base 16 16) e ∙ rw (q, all) at (written-more f base (c + 1) (15 - c) 16 lead))
 
 -- ---- the words, place by place
 
@@ -206,8 +226,15 @@ module _ (c gap : ℕ) (l : List ℤ) where
   rest-total zero = simp add-zero lead-total
   rest-total (suc n) = rw (add-suc (c + 1) n) (omega (arith, rest-total n, column-is (c + 1 + n) (omega arith)))
 
-  -- the count is that of the rotation
-  pub count-rotated : c < 32 → rowsCounted (columnStored c gap l) c ≡ total 32 (saturationsAt c gap l)
+  -- n columns of Q
+  q-total : c < 16 → (n : ℕ) → total n (λ j. saturationsAt c gap l (16 + j)) ≡ counted (columnStored c gap l) 16 n
+  unfolding total counted
+  q-total h zero = refl
+  q-total h (suc n) = omega (arith, q-total h n, column-is (16 + n) (omega arith))
+
+  -- the counts are those of the rotation
+  pub count-rotated : c < 16 → rowsCounted (columnStored c gap l) c ≡ saturationsOf c gap l
+  unfolding saturationsOf
   count-rotated h =
-      let all : c + 1 + (31 - c) ≡ 32 = omega arith in
-      sym (rw all at (rest-total (31 - c)))
+      let all : c + 1 + (15 - c) ≡ 16 = omega arith in
+      sides (sym (rw all at (rest-total (15 - c)))) (sym (q-total h 16))

@@ -2,5 +2,5 @@
 pub mod Column
 pub mod Rotated
 pub mod Locality
-pub mod Tally
+pub mod Saturations
 pub mod Stores

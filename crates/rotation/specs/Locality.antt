@@ -7,7 +7,7 @@ use Prim.Native.Nat.{ℕ, _+_, _*_, _≤_, _<_}
 use lib.IntN.{ℤ, pos}
 use lib.ListN.{length, getD}
 use Rattle.rotation.specs.Column.{rowWords}
-use Rattle.rotation.specs.Rotated.{rotated, tallyOf}
+use Rattle.rotation.specs.Rotated.{rotated, saturationsOf}
 
 -- ---- reads
 
@@ -27,7 +27,7 @@ WordsRead =
 
 -- and counts the same
 abbrev pub CountsRead : Type 0
-CountsRead = (c gap : ℕ) (l m : List ℤ) → Agree c gap l m → tallyOf c gap l ≡ tallyOf c gap m
+CountsRead = (c gap : ℕ) (l m : List ℤ) → Agree c gap l m → saturationsOf c gap l ≡ saturationsOf c gap m
 
 -- ---- writes
 

@@ -1,5 +1,5 @@
--- Document 01, "One turn": what one rotation makes of the part of the workspace that begins at its upper row. The words stand here by position, and
--- what is counted stands by column. Assumes nothing.
+-- Document 01, "One turn", and document 02, U1: what one rotation makes of the part of the workspace that begins at its upper row. The words stand
+-- here by position, and what is counted stands by column. Assumes nothing.
 use Prim.Native.Nat.{ℕ, _+_, _*_, _/_, _%_}
 use mathlib.Core.Bool.{cond}
 use mathlib.Core.List.{List}
@@ -10,7 +10,7 @@ use mir.Val.{boolByte}
 use Rattle.integers.specs.Sum.{total}
 use Rattle.lists.specs.Lists.{tabulate}
 use Rattle.rotation.specs.Column.{rowWords, columnStored}
-use Rattle.rotation.specs.declared.Tally.{Tally}
+use Rattle.rotation.specs.declared.Saturations.{Saturations}
 
 -- ---- the words
 
@@ -35,6 +35,14 @@ saturationsAt c gap l j =
     cond (ltb j c) 0
     (boolByte (columnStored c gap l j .upper .saturated) + cond (eqb j c) 0 (boolByte (columnStored c gap l j .lower .saturated)))
 
--- what the rotation counts
-unfoldable pub tallyOf : ℕ → ℕ → List ℤ → Tally
-tallyOf c gap l = record { saturations = total rowWords (saturationsAt c gap l) }
+-- the columns of a side: R stands in columns 0 to 15, and Q transposed in columns 16 to 31
+abbrev pub sideColumns : ℕ
+sideColumns = 16
+
+-- what the rotation counts: the saturations of the columns of R, and those of the columns of Q
+unfoldable pub saturationsOf : ℕ → ℕ → List ℤ → Saturations
+saturationsOf c gap l =
+    record {
+      r = total sideColumns (saturationsAt c gap l);
+      q = total sideColumns (λ j. saturationsAt c gap l (sideColumns + j));
+    }

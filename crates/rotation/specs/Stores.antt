@@ -9,6 +9,7 @@ use mir.Val.{boolByte}
 use Rattle.cordic.specs.declared.Pair.{Pair}
 use Rattle.cordic.specs.declared.Word.{Word}
 use Rattle.cordic.specs.declared.Column.{Column}
+use Rattle.rotation.specs.declared.Saturations.{Saturations}
 
 -- ---- two rows held apart
 
@@ -43,6 +44,6 @@ unfoldable pub counted : (ℕ → Column) → ℕ → ℕ → ℕ
 counted f c zero = 0
 counted f c (suc n) = counted f c n + (boolByte (f (c + n) .upper .saturated) + boolByte (f (c + n) .lower .saturated))
 
--- and of the columns from the leading column c on, whose lower word never counts
-abbrev pub rowsCounted : (ℕ → Column) → ℕ → ℕ
-rowsCounted f c = boolByte (f c .upper .saturated) + counted f (c + 1) (31 - c)
+-- and of the columns from the leading column c on, by side: c is one of R's, and its lower word never counts
+abbrev pub rowsCounted : (ℕ → Column) → ℕ → Saturations
+rowsCounted f c = record { r = boolByte (f c .upper .saturated) + counted f (c + 1) (15 - c); q = counted f 16 16 }

@@ -1,26 +1,29 @@
 // One rotation: what it counts. Its definition, by position and by column, stands in specs/; the crates `wide` and `narrow` make it.
 ghost use mathlib.Core.Path.{_≡_};
-ghost use Rattle.rotation.specs.Tally.{noTally, tallied, CountOf};
+ghost use Rattle.rotation.specs.Saturations.{noSaturations, added, CountOf};
 
-// What a rotation counts, or several together: the words that saturation altered.
-pub struct Tally {
-    pub saturations: u32,
+// What a rotation counts, or several together: the words that saturation altered in the columns of R, 0 to 15, and in those of Q,
+// 16 to 31.
+pub struct Saturations {
+    pub r: u32,
+    pub q: u32,
 }
 
-impl Tally {
-    pub fn none() -> Tally
-        ensures { λ r. ⌜ r ≡ noTally ⌝ }
+impl Saturations {
+    pub fn none() -> Saturations
+        ensures { λ s. ⌜ s ≡ noSaturations ⌝ }
     {
-        Tally { saturations: 0 }
+        Saturations { r: 0, q: 0 }
     }
 
     // What both counted. The bounds are those of one rotation after at most 119 others, so that no sum wraps.
-    pub fn plus(self, other: Tally) -> Tally
+    pub fn plus(self, other: Saturations) -> Saturations
         requires { ⌜ CountOf 119 self × CountOf 1 other ⌝ }
-        ensures { λ r. ⌜ r ≡ tallied self other ⌝ }
+        ensures { λ s. ⌜ s ≡ added self other ⌝ }
     {
-        Tally {
-            saturations: self.saturations + other.saturations,
+        Saturations {
+            r: self.r + other.r,
+            q: self.q + other.q,
         }
     }
 }

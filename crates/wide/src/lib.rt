@@ -2,9 +2,9 @@
 // compiler can work several columns at once.
 use cordic::Pair;
 use cordic::Word;
-use rotation::Tally;
+use rotation::Saturations;
 ghost use mathlib.Core.Path.{_≡_};
-ghost use Prim.Native.Nat.{ℕ, _^_, _<_, _≤_, _+_, _-_, _*_};
+ghost use Prim.Native.Nat.{ℕ, _^_, _<_, _≤_, _+_, _*_};
 ghost use lib.ListN.{length};
 ghost use lib.Signed.{mag};
 ghost use mir.Val.{boolByte};
@@ -12,7 +12,7 @@ ghost use Rattle.cordic.specs.Word.{scaled, saturate};
 ghost use Rattle.cordic.specs.Range.{InRange};
 ghost use Rattle.cordic.specs.MicroRotation.{microRotation, microRotations, sign};
 ghost use Rattle.rotation.specs.Column.{columnAt, rotatedAt, stored};
-ghost use Rattle.rotation.specs.Rotated.{rotated, tallyOf};
+ghost use Rattle.rotation.specs.Rotated.{rotated, saturationsOf};
 ghost use Rattle.rotation.specs.Stores.{pairAt, Columns, written, leadingWritten, rowsWritten, counted, rowsCounted};
 
 // Micro-rotation i of the columns from `from` on.
@@ -79,7 +79,7 @@ fn store_columns(
     requires { ⌜ (first + count ≤ 32) × (base + 32 ≤ length (now part)) × (length (now us) ≡ 32) × (length (now vs) ≡ 32) ⌝ }
     requires { ⌜ ((j : ℕ) → first ≤ j → j < 32 → InRange (2 ^ 33 + 2 ^ 32) (pairAt (now us) (now vs) j)) ⌝ }
     ensures words { λ _. ⌜ now (part .exit) ≡ written (λ (k : ℕ). stored (pairAt (now (us .entry)) (now (vs .entry)) k)) base first count (now (part .entry)) ⌝ }
-    ensures tally { λ r. ⌜ r ≡ counted (λ (k : ℕ). stored (pairAt (now (us .entry)) (now (vs .entry)) k)) first count ⌝ }
+    ensures saturations { λ r. ⌜ r ≡ counted (λ (k : ℕ). stored (pairAt (now (us .entry)) (now (vs .entry)) k)) first count ⌝ }
 {
     let mut saturations: u32 = 0;
     for n in 0..count {
@@ -101,7 +101,7 @@ fn store_columns(
 fn store_leading(part: &mut [i32], base: usize, column: usize, u: i64) -> u32
     requires { ⌜ (column < 32) × (base + 32 ≤ length (now part)) × (mag u ≤ 2 ^ 33 + 2 ^ 32) ⌝ }
     ensures words { λ _. ⌜ now (part .exit) ≡ leadingWritten (saturate (scaled u)) base column (now (part .entry)) ⌝ }
-    ensures tally { λ r. ⌜ r ≡ boolByte (saturate (scaled u) .saturated) ⌝ }
+    ensures saturations { λ r. ⌜ r ≡ boolByte (saturate (scaled u) .saturated) ⌝ }
 {
     let a = Word::scale_saturate(u);
     let x = a.value;
@@ -127,17 +127,20 @@ fn rotated_columns(
     rotate_columns(column, us, vs);
 }
 
-// Stores the columns from the leading one on; answers their saturations.
-fn store_rows(part: &mut [i32], base: usize, column: usize, us: &[i64], vs: &[i64]) -> u32
-    requires { ⌜ (column < 32) × (base + 32 ≤ length (now part)) × (length (now us) ≡ 32) × (length (now vs) ≡ 32) ⌝ }
+// Stores the columns from the leading one on, those of R and then those of Q; answers their saturations. The leading column is always
+// one of R.
+fn store_rows(part: &mut [i32], base: usize, column: usize, us: &[i64], vs: &[i64]) -> Saturations
+    requires { ⌜ (column < 16) × (base + 32 ≤ length (now part)) × (length (now us) ≡ 32) × (length (now vs) ≡ 32) ⌝ }
     requires { ⌜ ((j : ℕ) → column ≤ j → j < 32 → InRange (2 ^ 33 + 2 ^ 32) (pairAt (now us) (now vs) j)) ⌝ }
     ensures words { λ _. ⌜ now (part .exit) ≡ rowsWritten (λ (k : ℕ). stored (pairAt (now (us .entry)) (now (vs .entry)) k)) base column (now (part .entry)) ⌝ }
-    ensures tally { λ r. ⌜ r ≡ rowsCounted (λ (k : ℕ). stored (pairAt (now (us .entry)) (now (vs .entry)) k)) column ⌝ }
+    ensures saturations { λ s. ⌜ s ≡ rowsCounted (λ (k : ℕ). stored (pairAt (now (us .entry)) (now (vs .entry)) k)) column ⌝ }
 {
     let u = us[column];
     let lead = store_leading(part, base, column, u);
-    let rest = store_columns(part, base, column + 1, 31 - column, us, vs);
-    lead + rest
+    let left = store_columns(part, base, column + 1, 15 - column, us, vs);
+    let q = store_columns(part, base, 16, 16, us, vs);
+    let r = lead + left;
+    Saturations { r, q }
 }
 
 // One rotation of the part that begins at the upper row, with two rows to work in: its leading column is `column`, and the lower row
@@ -148,14 +151,13 @@ pub fn rotate_in(
     gap: usize,
     us: &mut [i64],
     vs: &mut [i64],
-) -> Tally
+) -> Saturations
     requires { ⌜ (column < 16) × (1 ≤ gap) × (gap * 32 + 32 ≤ length (now part)) × (length (now us) ≡ 32) × (length (now vs) ≡ 32) ⌝ }
     ensures words { λ _. ⌜ now (part .exit) ≡ rotated column gap (now (part .entry)) ⌝ }
-    ensures tally { λ r. ⌜ r ≡ tallyOf column gap (now (part .entry)) ⌝ }
+    ensures saturations { λ s. ⌜ s ≡ saturationsOf column gap (now (part .entry)) ⌝ }
 {
     let base = gap * 32;
     let x = part[column];
     rotated_columns(&part[..], base, column, x < 0, us, vs);
-    let saturations = store_rows(part, base, column, &us[..], &vs[..]);
-    Tally { saturations }
+    store_rows(part, base, column, &us[..], &vs[..])
 }

@@ -22,12 +22,12 @@ use Rattle.cordic.specs.declared.Pair.{Pair}
 use Rattle.cordic.proofs.ColumnRotation.{zeroed, rotation-dot}
 use Rattle.rotation.specs.Column.{columnStored}
 use Rattle.rotation.specs.Rotated.{rotated}
-use Rattle.rotation.specs.Tally.{noTally}
-use Rattle.rotation.proofs.Column.{columnBefore, rotating, stored-nonneg, stored-short, tally-none}
+use Rattle.rotation.specs.Saturations.{noSaturations}
+use Rattle.rotation.proofs.Column.{columnBefore, rotating, stored-nonneg, stored-short, saturations-none}
 use Rattle.rotation.proofs.Places.{rotated-upper, rotated-lower, rotated-zero, rotated-before, rotated-other}
 use Rattle.schedule.specs.declared.Rotation.{Rotation}
 use Rattle.workspace.specs.Workspace.{wordIn}
-use Rattle.workspace.specs.Rotations.{rowsFrom, workspaceRotated, workspaceTally}
+use Rattle.workspace.specs.Rotations.{rowsFrom, workspaceRotated, workspaceSaturations}
 use Rattle.workspace.proofs.Products.{pair, pairNorm, GivensStep}
 use Rattle.workspace.proofs.RotationsMade.{part-room, above-length, from-part}
 
@@ -158,6 +158,6 @@ module _ (t : Rotation) (l : List ℤ) (ordered : t .column ≤ t .upper) (apart
   }
 
   -- and it counts nothing where every column is short
-  pub workspace-uncounted : ((k : ℕ) → k < 32 → Short t l k) → workspaceTally t l ≡ noTally
-  unfolding workspaceTally
-  workspace-uncounted n = tally-none (t .column) (gap t) (rowsFrom t l) (λ k p q. short k (n k q))
+  pub workspace-uncounted : ((k : ℕ) → k < 32 → Short t l k) → workspaceSaturations t l ≡ noSaturations
+  unfolding workspaceSaturations
+  workspace-uncounted n = saturations-none (t .column) (gap t) (rowsFrom t l) (λ k p q. short k (n k q))

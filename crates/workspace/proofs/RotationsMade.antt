@@ -8,13 +8,13 @@ use lib.IntN.{ℤ, pos}
 use lib.ListN.{length, getD, take, drop, length-append, length-drop}
 use lib.Seq.{length-take-le, ext-getD, getD-drop, getD-append-add}
 use Rattle.rotation.specs.Rotated.{rotated}
-use Rattle.rotation.specs.Tally.{tallied, CountOf}
+use Rattle.rotation.specs.Saturations.{added, CountOf}
 use Rattle.rotation.proofs.Places.{rotated-length, rotated-other}
-use Rattle.rotation.proofs.Tallies.{count-one, none-tallied, tallied-assoc}
+use Rattle.rotation.proofs.Counts.{count-one, added-none, added-assoc}
 use Rattle.schedule.specs.declared.Rotation.{Rotation}
 use Rattle.schedule.specs.Schedule.{rotationAt}
 use Rattle.schedule.proofs.Clear.{rotation-shape}
-use Rattle.workspace.specs.Rotations.{rowsFrom, workspaceRotated, workspaceTally, rotationsMade, rotationsTally}
+use Rattle.workspace.specs.Rotations.{rowsFrom, workspaceRotated, workspaceSaturations, rotationsMade, saturationsCounted}
 
 -- ---- one rotation
 
@@ -81,15 +81,15 @@ unfolding rotationsMade
 made-more n j zero l = rw (add-zero j)
 made-more n j (suc k) l = rw (add-suc j k, ← made-more n j k l, add-assoc n j k)
 
-pub tally-more : (n j k : ℕ) (l : List ℤ) → tallied (rotationsTally n j l) (rotationsTally (n + j) k (rotationsMade n j l)) ≡ rotationsTally n (j + k) l
-unfolding rotationsTally
-tally-more n j zero l = rw (add-zero j) (none-tallied (rotationsTally n j l))
-tally-more n j (suc k) l =
-    rw (add-suc j k, ← tally-more n j k l, made-more n j k l, add-assoc n j k)
-    (sym (tallied-assoc (rotationsTally n j l) (rotationsTally (n + j) k (rotationsMade n j l)) (workspaceTally (rotationAt (n + (j + k))) (rotationsMade n (j + k) l))))
+pub saturations-more : (n j k : ℕ) (l : List ℤ) → added (saturationsCounted n j l) (saturationsCounted (n + j) k (rotationsMade n j l)) ≡ saturationsCounted n (j + k) l
+unfolding saturationsCounted
+saturations-more n j zero l = rw (add-zero j) (added-none (saturationsCounted n j l))
+saturations-more n j (suc k) l =
+    rw (add-suc j k, ← saturations-more n j k l, made-more n j k l, add-assoc n j k)
+    (sym (added-assoc (saturationsCounted n j l) (saturationsCounted (n + j) k (rotationsMade n j l)) (workspaceSaturations (rotationAt (n + (j + k))) (rotationsMade n (j + k) l))))
 
 -- ---- a rotation's count
 
-pub rotation-count : (t : Rotation) (l : List ℤ) → CountOf 1 (workspaceTally t l)
-unfolding workspaceTally
+pub rotation-count : (t : Rotation) (l : List ℤ) → CountOf 1 (workspaceSaturations t l)
+unfolding workspaceSaturations
 rotation-count t l = count-one (t .column) (t .lower - t .upper) (rowsFrom t l)

@@ -9,7 +9,7 @@ use lib.IntN.{ℤ, pos}
 use lib.ListN.{length, getD, take, length-drop, List·getD-append}
 use lib.Seq.{length-take-le, ext-getD, getD-take, getD-drop}
 use Rattle.rotation.specs.Rotated.{rotated}
-use Rattle.rotation.specs.Tally.{tallied}
+use Rattle.rotation.specs.Saturations.{added}
 use Rattle.rotation.specs.Locality.{Agree}
 use Rattle.rotation.proofs.Places.{rotated-position}
 use Rattle.rotation.proofs.Locality.{word-agrees, counts-read}
@@ -17,7 +17,7 @@ use Rattle.schedule.specs.declared.Rotation.{Rotation}
 use Rattle.schedule.specs.Schedule.{rotationAt}
 use Rattle.schedule.proofs.Clear.{rotation-shape}
 use Rattle.workspace.specs.Workspace.{wordIn, R, Q}
-use Rattle.workspace.specs.Rotations.{rowsFrom, workspaceRotated, workspaceTally, rotationsMade, rotationsTally}
+use Rattle.workspace.specs.Rotations.{rowsFrom, workspaceRotated, workspaceSaturations, rotationsMade, saturationsCounted}
 use Rattle.workspace.proofs.RotationsMade.{above-length, from-part, made-length}
 
 -- ---- the same first 512 words, one by one
@@ -77,9 +77,9 @@ module _ (t : Rotation) (ordered : t .column ≤ t .upper) (apart : t .upper < t
             let e : t .upper * 32 + (k - t .upper * 32) ≡ k = omega arith in
             subst (λ (n : ℕ). getD (workspaceRotated t l) n (pos 0) ≡ getD (workspaceRotated t m) n (pos 0)) e (from-same (k - t .upper * 32) (omega arith))
 
-    workspace-tally-same : workspaceTally t l ≡ workspaceTally t m
-    unfolding workspaceTally
-    workspace-tally-same = counts-read (t .column) (t .lower - t .upper) (rowsFrom t l) (rowsFrom t m) agree
+    workspace-saturations-same : workspaceSaturations t l ≡ workspaceSaturations t m
+    unfolding workspaceSaturations
+    workspace-saturations-same = counts-read (t .column) (t .lower - t .upper) (rowsFrom t l) (rowsFrom t m) agree
 
 -- ---- rotations of the schedule
 
@@ -92,13 +92,13 @@ module _ (l m : List ℤ) (room : 512 ≤ length l) (space : 512 ≤ length m) (
       workspace-same (rotationAt (n + k)) (s .0) (s .1) (s .2) (rotationsMade n k l) (rotationsMade n k m)
       (omega (arith, made-length n k l (omega arith) room)) (omega (arith, made-length n k m (omega arith) space)) (made-same n k (omega arith))
 
-  pub tally-same : (n k : ℕ) → n + k ≤ 120 → rotationsTally n k l ≡ rotationsTally n k m
-  unfolding rotationsTally
-  tally-same n zero h = refl
-  tally-same n (suc k) h =
+  pub saturations-same : (n k : ℕ) → n + k ≤ 120 → saturationsCounted n k l ≡ saturationsCounted n k m
+  unfolding saturationsCounted
+  saturations-same n zero h = refl
+  saturations-same n (suc k) h =
       let s = rotation-shape (n + k) (omega arith) in
-      ap₂ tallied (tally-same n k (omega arith))
-      (workspace-tally-same (rotationAt (n + k)) (s .0) (s .1) (s .2) (rotationsMade n k l) (rotationsMade n k m)
+      ap₂ added (saturations-same n k (omega arith))
+      (workspace-saturations-same (rotationAt (n + k)) (s .0) (s .1) (s .2) (rotationsMade n k l) (rotationsMade n k m)
       (omega (arith, made-length n k l (omega arith) room)) (omega (arith, made-length n k m (omega arith) space)) (made-same n k (omega arith)))
 
   pub made-take : (n k : ℕ) → n + k ≤ 120 → take 512 (rotationsMade n k l) ≡ take 512 (rotationsMade n k m)

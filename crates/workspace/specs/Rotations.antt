@@ -4,10 +4,10 @@ use Prim.Native.Nat.{ℕ, zero, suc, _+_, _-_, _*_}
 use mathlib.Core.List.{List, _++_}
 use lib.IntN.{ℤ}
 use lib.ListN.{take, drop}
-use Rattle.rotation.specs.declared.Tally.{Tally}
+use Rattle.rotation.specs.declared.Saturations.{Saturations}
 use Rattle.rotation.specs.Column.{rowWords}
-use Rattle.rotation.specs.Rotated.{rotated, tallyOf}
-use Rattle.rotation.specs.Tally.{noTally, tallied}
+use Rattle.rotation.specs.Rotated.{rotated, saturationsOf}
+use Rattle.rotation.specs.Saturations.{noSaturations, added}
 use Rattle.schedule.specs.declared.Rotation.{Rotation}
 use Rattle.schedule.specs.Schedule.{rotationAt}
 
@@ -20,8 +20,8 @@ unfoldable pub workspaceRotated : Rotation → List ℤ → List ℤ
 workspaceRotated t l = take (t .upper * rowWords) l ++ rotated (t .column) (t .lower - t .upper) (rowsFrom t l)
 
 -- what the rotation counts
-unfoldable pub workspaceTally : Rotation → List ℤ → Tally
-workspaceTally t l = tallyOf (t .column) (t .lower - t .upper) (rowsFrom t l)
+unfoldable pub workspaceSaturations : Rotation → List ℤ → Saturations
+workspaceSaturations t l = saturationsOf (t .column) (t .lower - t .upper) (rowsFrom t l)
 
 -- k rotations from rotation number n on
 unfoldable pub rotationsMade : ℕ → ℕ → List ℤ → List ℤ
@@ -29,6 +29,6 @@ rotationsMade n zero l = l
 rotationsMade n (suc k) l = workspaceRotated (rotationAt (n + k)) (rotationsMade n k l)
 
 -- what they count
-unfoldable pub rotationsTally : ℕ → ℕ → List ℤ → Tally
-rotationsTally n zero l = noTally
-rotationsTally n (suc k) l = tallied (rotationsTally n k l) (workspaceTally (rotationAt (n + k)) (rotationsMade n k l))
+unfoldable pub saturationsCounted : ℕ → ℕ → List ℤ → Saturations
+saturationsCounted n zero l = noSaturations
+saturationsCounted n (suc k) l = added (saturationsCounted n k l) (workspaceSaturations (rotationAt (n + k)) (rotationsMade n k l))

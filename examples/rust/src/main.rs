@@ -12,7 +12,7 @@ use std::io::{self, ErrorKind, Read, Write};
 use std::path::Path;
 use std::process::ExitCode;
 
-use hubqr::{Refusal, AREA_WORDS, MATRIX_RECORD_BYTES, RESULT_RECORD_BYTES, TURNS};
+use hubqr::{Clamps, Refusal, AREA_WORDS, MATRIX_RECORD_BYTES, RESULT_RECORD_BYTES, TURNS};
 
 const SAMPLE: &str = "examples/records/hermitian.bin";
 const INSTALMENT: u16 = 7;
@@ -77,10 +77,12 @@ fn work(mut turn: u32, area: &mut [i32], output: &mut impl Write) -> Result<u32,
         let progress = hubqr::run(turn, INSTALMENT, area)?;
         turn = progress.turn;
         other_work(&mut rounds);
+        let Clamps { r, q } = progress.clamps;
         writeln!(
             output,
-            "turn {turn:3} of {TURNS}, count {}, clamps {}, rounds of other work {rounds}",
-            progress.count, progress.clamps
+            "turn {turn:3} of {TURNS}, count {}, clamps {r} in R, {q} in Q, \
+             rounds of other work {rounds}",
+            progress.count
         )
         .map_err(Failure::Output)?;
     }

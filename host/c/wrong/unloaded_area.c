@@ -11,5 +11,5 @@ uint32_t work(const uint8_t *record)
 #else
     (void)record;
 #endif
-    return hubqr_run(0, 7, area, HUBQR_AREA_WORDS).clamps;
+    return hubqr_run(0, 7, area, HUBQR_AREA_WORDS).clamps_r;
 }

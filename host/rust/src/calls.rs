@@ -16,6 +16,16 @@ pub struct Loaded {
     pub heard: u8,
 }
 
+/// How many words were cut to the 32-bit range, by side. Both are 0 for an area that was loaded and
+/// worked with the turn numbers that were answered.
+#[derive(Clone, Copy, Debug, PartialEq, Eq)]
+pub struct Clamps {
+    /// Those of columns 0 to 15, which hold R.
+    pub r: u32,
+    /// Those of columns 16 to 31, which hold Q.
+    pub q: u32,
+}
+
 /// What an accepted [`run`] answers.
 #[derive(Clone, Copy, Debug, PartialEq, Eq)]
 #[non_exhaustive]
@@ -24,8 +34,8 @@ pub struct Progress {
     pub turn: u32,
     /// The turns made in this call.
     pub count: u32,
-    /// The words cut to the 32-bit range in this call: 0 for an area that [`load`] filled.
-    pub clamps: u32,
+    /// The clamps counted in this call.
+    pub clamps: Clamps,
 }
 
 /// What an accepted [`read`] answers.
@@ -42,8 +52,8 @@ pub struct Restored {
 pub struct Factored {
     /// Bit k is set when column k of the complex matrix has an element other than zero.
     pub heard: u8,
-    /// The words cut to the 32-bit range: 0.
-    pub clamps: u32,
+    /// The clamps counted: 0 on both sides.
+    pub clamps: Clamps,
 }
 
 /// Fills the area's 512 words from a matrix record.
@@ -84,9 +94,10 @@ pub fn load(record: &[u8], area: &mut [i32]) -> Result<Loaded, Refusal> {
 /// # let mut area = [0; hubqr::AREA_WORDS];
 /// let turn = hubqr::load(&record, &mut area)?.turn;
 /// let progress = hubqr::run(turn, 100, &mut area)?;
-/// assert_eq!((progress.turn, progress.count, progress.clamps), (100, 100, 0));
+/// assert_eq!((progress.turn, progress.count), (100, 100));
 /// let progress = hubqr::run(progress.turn, 100, &mut area)?;
-/// assert_eq!((progress.turn, progress.count, progress.clamps), (120, 20, 0));
+/// assert_eq!((progress.turn, progress.count), (120, 20));
+/// assert_eq!(progress.clamps, hubqr::Clamps { r: 0, q: 0 });
 /// # Ok::<(), hubqr::Refusal>(())
 /// ```
 pub fn run(turn: u32, allowance: u16, area: &mut [i32]) -> Result<Progress, Refusal> {
@@ -96,7 +107,10 @@ pub fn run(turn: u32, allowance: u16, area: &mut [i32]) -> Result<Progress, Refu
     Ok(Progress {
         turn: reply.turn,
         count: reply.count,
-        clamps: reply.clamps,
+        clamps: Clamps {
+            r: reply.clamps_r,
+            q: reply.clamps_q,
+        },
     })
 }
 
@@ -167,7 +181,8 @@ pub fn read(record: &[u8], area: &mut [i32]) -> Result<Restored, Refusal> {
 /// let mut result = [0; hubqr::RESULT_RECORD_BYTES];
 /// let record = [1; hubqr::MATRIX_RECORD_BYTES]; // kind byte 1, each part 257
 /// let factored = hubqr::whole(&record, &mut area, &mut result)?;
-/// assert_eq!((factored.heard, factored.clamps), (0xff, 0));
+/// assert_eq!(factored.heard, 0xff);
+/// assert_eq!(factored.clamps, hubqr::Clamps { r: 0, q: 0 });
 /// # Ok::<(), hubqr::Refusal>(())
 /// ```
 pub fn whole(record: &[u8], area: &mut [i32], buffer: &mut [u8]) -> Result<Factored, Refusal> {
@@ -185,7 +200,10 @@ pub fn whole(record: &[u8], area: &mut [i32], buffer: &mut [u8]) -> Result<Facto
     accepted(reply.number)?;
     Ok(Factored {
         heard: reply.heard,
-        clamps: reply.clamps,
+        clamps: Clamps {
+            r: reply.clamps_r,
+            q: reply.clamps_q,
+        },
     })
 }
 

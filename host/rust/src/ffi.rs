@@ -28,8 +28,10 @@ pub struct RunReply {
     pub turn: u32,
     /// The turns made in this call.
     pub count: u32,
-    /// The clamps counted in this call.
-    pub clamps: u32,
+    /// The clamps counted in this call in columns 0 to 15, which hold R.
+    pub clamps_r: u32,
+    /// The clamps counted in this call in columns 16 to 31, which hold Q.
+    pub clamps_q: u32,
 }
 
 /// What Read answers.
@@ -50,8 +52,10 @@ pub struct WholeReply {
     pub number: u8,
     /// The heard byte.
     pub heard: u8,
-    /// The clamps counted: 0.
-    pub clamps: u32,
+    /// The clamps counted in columns 0 to 15: 0.
+    pub clamps_r: u32,
+    /// The clamps counted in columns 16 to 31: 0.
+    pub clamps_q: u32,
 }
 
 extern "C" {

@@ -64,7 +64,7 @@ mod refusal;
 #[cfg(feature = "archive")]
 pub use calls::{fetch, load, read, run, version, whole};
 #[cfg(feature = "archive")]
-pub use calls::{Factored, Loaded, Progress, Restored};
+pub use calls::{Clamps, Factored, Loaded, Progress, Restored};
 pub use refusal::{Refusal, UnknownNumber};
 
 /// The version of this crate as a number, 10000 * major + 100 * minor + patch. The archive answers

@@ -3,6 +3,7 @@
 
 use super::digest;
 use crate::calls;
+use crate::clamps::Clamps;
 use crate::replies::{LoadReply, RunReply};
 
 #[derive(Default)]
@@ -40,11 +41,11 @@ impl Host {
             number,
             turn,
             count,
-            clamps,
+            clamps: Clamps { r, q },
         } = calls::run(from, allowance, area);
         self.write(&format!(
             "  Run of {allowance} from turn {from}: number {number}, next turn {turn}, \
-             turns made {count}, clamps {clamps}; area {}",
+             turns made {count}, clamps {r} in R, {q} in Q; area {}",
             digest::of_words(area)
         ));
         turn

@@ -3,6 +3,7 @@
 //! What the engine only reads is lent as writable, too, so that a forbidden write would be seen.
 
 use hubqr::ffi;
+use reference::clamps::Clamps;
 use reference::replies::{FetchReply, LoadReply, ReadReply, RunReply, WholeReply};
 
 // SAFETY of all calls: the pointers and lengths come from live slices that do not overlap.
@@ -29,7 +30,10 @@ pub fn run(turn: u32, allowance: u16, area: &mut [i32]) -> RunReply {
         number: reply.number,
         turn: reply.turn,
         count: reply.count,
-        clamps: reply.clamps,
+        clamps: Clamps {
+            r: reply.clamps_r,
+            q: reply.clamps_q,
+        },
     }
 }
 
@@ -75,6 +79,9 @@ pub fn whole(record: &mut [u8], area: &mut [i32], buffer: &mut [u8]) -> WholeRep
     WholeReply {
         number: reply.number,
         heard: reply.heard,
-        clamps: reply.clamps,
+        clamps: Clamps {
+            r: reply.clamps_r,
+            q: reply.clamps_q,
+        },
     }
 }

@@ -6,6 +6,7 @@
 
 mod engine;
 mod twin;
+pub mod words;
 
 use std::fmt::{self, Debug, Display};
 

@@ -101,8 +101,10 @@ fn contracts_that_say_less() {
         let clause = "record { number = r; buffer = now (buffer .exit) } ≡ fetchOf turn (now (area .entry)) (now (buffer .entry))";
         copy.replace(face, clause, "now (buffer .exit) ≡ now (buffer .exit)");
     });
-    refuses("no-clause", "hubqr_version", |copy| {
-        copy.replace(face, "    ensures { λ r. ⌜ r ≡ 200 ⌝ }\n", "");
+    refuses("no-clause", "hubqr_read", |copy| {
+        let clause = "record { reply = r; workspace = now (area .exit) } ≡ readOf (now (bytes .entry)) (now (area .entry))";
+        let line = format!("    ensures {{ λ r. ⌜ {clause} ⌝ }}\n");
+        copy.replace(face, &line, "");
     });
 }
 

@@ -3,7 +3,7 @@ use native.Mathlib.Omega.{arith}
 use mathlib.Core.Path.{refl, sym, _∙_}
 use denote.Ref.{now}
 use borrow.Author.Needs.{needs}
-use Rattle.narrow.proofs.Norms.{bounded-tally}
+use Rattle.narrow.proofs.Norms.{bounded-none}
 use Rattle.givens.proofs.rotate.Statement.{statement}
 use Rattle.givens.proofs.rotate.Tie as tie
 
@@ -35,7 +35,7 @@ returns : tie.Need-returns
 returns c =
     let t = c .before .before .before .before .before .before .before .before in
     let a = t .before .before .before .args in
-    (c .before .before .before .before .rotate-in .ensures, c .none .ensures ∙ sym (bounded-tally (a .column) (a .gap) (now (a .part)) (sym (t .before .norms-bounded .ensures) ∙ t .if1 .taken)))
+    (c .before .before .before .before .rotate-in .ensures, c .none .ensures ∙ sym (bounded-none (a .column) (a .gap) (now (a .part)) (sym (t .before .norms-bounded .ensures) ∙ t .if1 .taken)))
 
 slice-aggregate-rotate-in-3 : tie.Need-slice-aggregate-rotate-in-3
 slice-aggregate-rotate-in-3 c = search needs

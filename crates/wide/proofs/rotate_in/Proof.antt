@@ -11,7 +11,6 @@ use denote.Ref.{now}
 use borrow.Author.Needs.{needs}
 use Rattle.cordic.specs.declared.Column.{Column}
 use Rattle.rotation.specs.Column.{stored, columnStored}
-use Rattle.rotation.specs.Rotated.{tallyOf}
 use Rattle.rotation.specs.Stores.{pairAt}
 use Rattle.rotation.proofs.Stores.{rows-same, count-same, rows-rotated, count-rotated}
 use Rattle.wide.proofs.rotate_in.Statement.{statement}
@@ -46,7 +45,7 @@ same-length-3 : tie.Need-same-length-3
 same-length-3 c = search needs
 
 returns : tie.Need-returns
-unfolding columnStored tallyOf
+unfolding columnStored
 returns c =
     let d = c .before .before .before .before .before .before .before in
     let s = d .before .before .before .before .before in
@@ -60,11 +59,9 @@ returns c =
       c .before .store-rows .ensures .0
           ∙ rows-same f (columnStored (a .column) (a .gap) l) (a .column) small same (a .gap * 32) l
           ∙ rows-rotated (a .column) (a .gap) l small (s .pre .1) (s .pre .2),
-      ap (λ (n : ℕ). record { saturations = n })
-          (c .before .store-rows .ensures .1
-          ∙ count-same f (columnStored (a .column) (a .gap) l) (a .column) small same
-          ∙ count-rotated (a .column) (a .gap) l small
-          ),
+      c .before .store-rows .ensures .1
+          ∙ count-same f (columnStored (a .column) (a .gap) l) (a .column) small same (s .pre .0)
+          ∙ count-rotated (a .column) (a .gap) l (s .pre .0),
     )
 
 pub rotate-in-spec : {M : Type 1} → statement M

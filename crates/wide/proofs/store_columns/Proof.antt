@@ -13,7 +13,7 @@ use borrow.Author.Needs.{needs}
 use Rattle.cordic.specs.declared.Word.{Word}
 use Rattle.rotation.specs.Column.{stored}
 use Rattle.rotation.specs.Stores.{pairAt, written, counted}
-use Rattle.rotation.proofs.Tallies.{byte-le}
+use Rattle.rotation.proofs.Counts.{byte-le}
 use Rattle.wide.proofs.store_columns.Statement.{statement}
 use Rattle.wide.proofs.store_columns.Tie as tie
 

@@ -13,8 +13,8 @@ use borrow.Author.Needs.{needs}
 use Rattle.cordic.specs.Word.{scaled, saturate}
 use Rattle.rotation.specs.Column.{stored}
 use Rattle.rotation.specs.Stores.{pairAt}
-use Rattle.rotation.proofs.Stores.{counted-few, rows-of}
-use Rattle.rotation.proofs.Tallies.{byte-le}
+use Rattle.rotation.proofs.Stores.{counted-few, sides-of}
+use Rattle.rotation.proofs.Counts.{sides, byte-le}
 use Rattle.wide.proofs.store_rows.Statement.{statement}
 use Rattle.wide.proofs.store_rows.Tie as tie
 
@@ -29,7 +29,7 @@ unfolding pairAt
 store-leading-requires c κs =
     let s = c .before .before in
     let u : SFits w64 (getD (now (s .args .us)) (s .args .column) (pos 0)) = search needs in
-    (omega arith, omega arith, rw (toZ-ofZ u) (s .pre .1 (s .args .column) (le-refl (s .args .column)) (s .pre .0 .0) .upper))
+    (omega arith, omega arith, rw (toZ-ofZ u) (s .pre .1 (s .args .column) (le-refl (s .args .column)) (omega arith) .upper))
 
 add-store-columns : tie.Need-add-store-columns
 add-store-columns c = search needs
@@ -42,13 +42,21 @@ store-columns-requires c κs =
     let s = c .before .before .before .before .before in
     (omega (arith, c .before .before .store-leading .kept .0), λ j p q. s .pre .1 j (omega arith) q)
 
-add-result : tie.Need-add-result
-add-result c =
+store-columns-requires-2 : tie.Need-store-columns-requires-2
+store-columns-requires-2 c κs =
+    let d = c .before .before in
+    let e = d .before .before .before in
+    let s = e .before .before .before in
+    (omega (arith, e .store-leading .kept .0, d .store-columns .kept .0), λ j p q. s .pre .1 j (omega arith) q)
+
+add-r : tie.Need-add-r
+add-r c =
     let d = c .before .before .before .before in
-    let a = d .before .before .before .args in
+    let e = d .before .before .before in
+    let a = e .before .before .before .args in
     let lead = byte-le (saturate (scaled (toZ w64 (ofZ w64 (getD (now (a .us)) (a .column) (pos 0))))) .saturated) in
-    let rest = counted-few (λ (k : ℕ). stored (pairAt (now (a .us)) (now (a .vs)) k)) (a .column + 1) (31 - a .column) in
-    omega (arith, d .store-leading .ensures .1, lead, c .before .store-columns .ensures .1, rest)
+    let left = counted-few (λ (k : ℕ). stored (pairAt (now (a .us)) (now (a .vs)) k)) (a .column + 1) (15 - a .column) in
+    omega (arith, e .store-leading .ensures .1, lead, d .store-columns .ensures .1, left)
 
 same-length : tie.Need-same-length
 same-length c = search needs
@@ -57,20 +65,26 @@ returns : tie.Need-returns
 unfolding stored pairAt
 returns c =
     let d = c .before .before .before .before in
-    let a = d .before .before .before .args in
+    let e = d .before .before .before in
+    let s = e .before .before .before in
+    let a = s .args in
     let u : SFits w64 (getD (now (a .us)) (a .column) (pos 0)) = search needs in
-    let lead = rw (toZ-ofZ u) at (d .store-leading .ensures) in
-    let rest = c .before .store-columns .ensures in (
-      rows-of
+    let lead = rw (toZ-ofZ u) at (e .store-leading .ensures) in
+    let left = d .store-columns .ensures in
+    let right = c .before .store-columns2 .ensures in (
+      sides-of
           (λ (k : ℕ). stored (pairAt (now (a .us)) (now (a .vs)) k))
           (a .base)
           (a .column)
           (now (a .part))
-          (d .store-leading .last .0)
-          (c .before .store-columns .last .0)
+          (e .store-leading .last .0)
+          (d .store-columns .last .0)
+          (c .before .store-columns2 .last .0)
+          (s .pre .0 .0)
           (lead .0)
-          (rest .0),
-      ap₂ (λ (m n : ℕ). m + n) (lead .1) (rest .1),
+          (left .0)
+          (right .0),
+      sides (ap₂ (λ (m n : ℕ). m + n) (lead .1) (left .1)) (right .1),
     )
 
 pub store-rows-spec : {M : Type 1} → statement M
@@ -83,6 +97,7 @@ store-rows-spec =
     add-store-columns
     sub-store-columns
     store-columns-requires
-    add-result
+    store-columns-requires-2
+    add-r
     same-length
     returns)

@@ -1,6 +1,8 @@
 //! Accepted calls: replies, and that instalments, threads and a detour over records make no difference.
 use crate::lent::{matrix, mixed_matrix, Lent};
-use hubqr::{AREA_WORDS, Q_ONE, RESULT_RECORD_BYTES, R_ONE, TURNS};
+use hubqr::{Clamps, AREA_WORDS, Q_ONE, RESULT_RECORD_BYTES, R_ONE, TURNS};
+
+const NO_CLAMPS: Clamps = Clamps { r: 0, q: 0 };
 
 /// Load, Runs of one allowance, Fetch.
 fn in_instalments(record: &[u8], allowance: u16) -> Lent {
@@ -10,7 +12,7 @@ fn in_instalments(record: &[u8], allowance: u16) -> Lent {
         let progress = hubqr::run(turn, allowance, &mut lent.area).unwrap();
         assert_eq!(progress.turn, turn + progress.count);
         assert_eq!(progress.count, u32::from(allowance).min(TURNS - turn));
-        assert_eq!(progress.clamps, 0);
+        assert_eq!(progress.clamps, NO_CLAMPS);
         turn = progress.turn;
     }
     hubqr::fetch(turn, &lent.area, &mut lent.buffer).unwrap();
@@ -60,7 +62,7 @@ fn instalments_make_no_difference() {
     let record = mixed_matrix();
     let mut whole = Lent::new();
     let factored = hubqr::whole(&record, &mut whole.area, &mut whole.buffer).unwrap();
-    assert_eq!((factored.heard, factored.clamps), (0xff, 0));
+    assert_eq!((factored.heard, factored.clamps), (0xff, NO_CLAMPS));
     assert!(whole.tails_untouched());
     for allowance in [1, 7, 60, 119, 120, 121, u16::MAX] {
         assert_eq!(in_instalments(&record, allowance), whole, "{allowance}");
@@ -74,16 +76,33 @@ fn a_run_may_make_no_turn() {
     for (turn, allowance) in [(120, u16::MAX), (120, 0), (60, 0)] {
         let progress = hubqr::run(turn, allowance, &mut lent.area).unwrap();
         assert_eq!((progress.turn, progress.count), (turn, 0));
-        assert_eq!(progress.clamps, 0);
+        assert_eq!(progress.clamps, NO_CLAMPS);
         assert_eq!(lent, before);
     }
 }
 
+/// The last turn works on columns 14 to 31 of two rows, which are equal here. Two equal words become
+/// a longer one in the upper row and next to nothing in the lower one, so that each column of the
+/// largest words is cut once.
 #[test]
-fn clamps_are_counted() {
-    let mut area = [i32::MAX; AREA_WORDS];
-    let progress = hubqr::run(119, 1, &mut area).unwrap();
-    assert_eq!(progress.clamps, 18);
+fn clamps_are_counted_by_side() {
+    for (columns, r, q) in [
+        (0..32, 2, 16),
+        (0..16, 2, 0),
+        (16..32, 0, 16),
+        (14..15, 1, 0),
+        (15..16, 1, 0),
+        (16..17, 0, 1),
+        (0..0, 0, 0),
+    ] {
+        let word = |place: usize| match columns.contains(&(place % 32)) {
+            true => i32::MAX,
+            false => 1000,
+        };
+        let mut area: [i32; AREA_WORDS] = std::array::from_fn(word);
+        let progress = hubqr::run(119, 1, &mut area).unwrap();
+        assert_eq!(progress.clamps, Clamps { r, q }, "columns {columns:?}");
+    }
 }
 
 #[test]

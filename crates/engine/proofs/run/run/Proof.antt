@@ -6,8 +6,8 @@ use native.Mathlib.Omega.{arith}
 use lib.IntN.{ℤ}
 use denote.Ref.{now}
 use borrow.Author.Needs.{needs}
-use Rattle.rotation.specs.declared.Tally.{Tally}
-use Rattle.workspace.specs.Rotations.{rotationsMade, rotationsTally}
+use Rattle.rotation.specs.declared.Saturations.{Saturations}
+use Rattle.workspace.specs.Rotations.{rotationsMade, saturationsCounted}
 use Rattle.engine.specs.Run.{runMade, runRefusal, runBy, runOf}
 use Rattle.engine.proofs.Accepted.{run-accepted}
 use Rattle.engine.proofs.run.run.Statement.{statement}
@@ -19,7 +19,7 @@ run-refusal-requires c κs = search needs
 same-length : tie.Need-same-length
 same-length c = search needs
 
-refused : (n turn budget : ℕ) (l : List ℤ) → (n ≡ 0 → ⊥) → record { reply = record { number = n; turn = turn; count = 0; clamps = 0 }; workspace = l } ≡ runBy n turn budget l
+refused : (n turn budget : ℕ) (l : List ℤ) → (n ≡ 0 → ⊥) → record { reply = record { number = n; turn = turn; count = 0; «clamps_r» = 0; «clamps_q» = 0 }; workspace = l } ≡ runBy n turn budget l
 unfolding runBy
 refused zero turn budget l f = absurd (f refl)
 refused (suc n) turn budget l f = refl
@@ -55,8 +55,8 @@ cast-made c = search needs
 same-length-2 : tie.Need-same-length-2
 same-length-2 c = search needs
 
-made-is : (turn count : ℕ) (l words : List ℤ) (t : Tally) → words ≡ rotationsMade turn count l → t ≡ rotationsTally turn count l
-    → record { reply = record { number = 0; turn = turn + count; count = count; clamps = t .saturations }; workspace = words } ≡ runMade turn count l
+made-is : (turn count : ℕ) (l words : List ℤ) (t : Saturations) → words ≡ rotationsMade turn count l → t ≡ saturationsCounted turn count l
+    → record { reply = record { number = 0; turn = turn + count; count = count; «clamps_r» = t .r; «clamps_q» = t .q }; workspace = words } ≡ runMade turn count l
 unfolding runMade
 made-is turn count l words t d e = rw (d, e)
 

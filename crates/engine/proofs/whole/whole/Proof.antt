@@ -8,10 +8,10 @@ use lib.IntN.{ℤ}
 use Rattle.lists.specs.Lists.{filled}
 use Rattle.matrix_record.specs.MatrixRecord.{heardByte}
 use Rattle.result_record.specs.ResultRecord.{resultByte}
-use Rattle.rotation.specs.declared.Tally.{Tally}
+use Rattle.rotation.specs.declared.Saturations.{Saturations}
 use Rattle.workspace.specs.Workspace.{R, Q}
 use Rattle.workspace.specs.Loading.{loadedWords}
-use Rattle.workspace.specs.Rotations.{rotationsMade, rotationsTally}
+use Rattle.workspace.specs.Rotations.{rotationsMade, saturationsCounted}
 use Rattle.engine.specs.Whole.{wholeRefusal, wholeDone, wholeBy, wholeOf}
 use Rattle.engine.proofs.Accepted.{whole-accepted}
 use borrow.Author.Needs.{needs}
@@ -27,7 +27,7 @@ same-length c = search needs
 same-length-2 : tie.Need-same-length-2
 same-length-2 c = search needs
 
-refused : (n : ℕ) (rec : List ℕ) (l : List ℤ) (buffer : List ℕ) → (n ≡ 0 → ⊥) → record { reply = record { number = n; heard = 0; clamps = 0 }; workspace = l; buffer = buffer } ≡ wholeBy n rec l buffer
+refused : (n : ℕ) (rec : List ℕ) (l : List ℤ) (buffer : List ℕ) → (n ≡ 0 → ⊥) → record { reply = record { number = n; heard = 0; «clamps_r» = 0; «clamps_q» = 0 }; workspace = l; buffer = buffer } ≡ wholeBy n rec l buffer
 unfolding wholeBy
 refused zero rec l buffer f = absurd (f refl)
 refused (suc n) rec l buffer f = refl
@@ -68,9 +68,9 @@ same-length-4 : tie.Need-same-length-4
 same-length-4 c = search needs
 
 -- the three steps, one after the other
-done-is : (rec : List ℕ) (l : List ℤ) (buffer : List ℕ) (heard : ℕ) (f words : List ℤ) (t : Tally) (b : List ℕ) → f ≡ loadedWords rec l → words ≡ rotationsMade 0 120 f → t ≡ rotationsTally 0 120 f
+done-is : (rec : List ℕ) (l : List ℤ) (buffer : List ℕ) (heard : ℕ) (f words : List ℤ) (t : Saturations) (b : List ℕ) → f ≡ loadedWords rec l → words ≡ rotationsMade 0 120 f → t ≡ saturationsCounted 0 120 f
     → b ≡ filled 2049 (resultByte (R words) (Q words)) buffer → heard ≡ heardByte rec
-    → record { reply = record { number = 0; heard = heard; clamps = t .saturations }; workspace = words; buffer = b } ≡ wholeDone rec l buffer
+    → record { reply = record { number = 0; heard = heard; «clamps_r» = t .r; «clamps_q» = t .q }; workspace = words; buffer = b } ≡ wholeDone rec l buffer
 unfolding wholeDone
 done-is rec l buffer heard f words t b d e u g h = rw (g, h, u, e, d)
 

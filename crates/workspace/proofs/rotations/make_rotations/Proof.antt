@@ -4,26 +4,25 @@ use native.Mathlib.Omega.{arith}
 use native.Mathlib.Numerals.{add-one}
 use mathlib.Core.Path.{_≡_, refl, _∙_}
 use lib.ListN.{length}
-use borrow.Author.Needs.{needs}
-use Rattle.rotation.specs.Tally.{CountOf}
-use Rattle.rotation.proofs.Tallies.{count-none, count-more, count-le}
-use Rattle.workspace.specs.Rotations.{rotationsMade, rotationsTally}
+use Rattle.rotation.specs.Saturations.{CountOf}
+use Rattle.rotation.proofs.Counts.{count-none, count-more, count-le}
+use Rattle.workspace.specs.Rotations.{rotationsMade, saturationsCounted}
 use Rattle.workspace.proofs.RotationsMade.{rotation-count}
 use Rattle.workspace.proofs.rotations.make_rotations.Statement.{statement}
 use Rattle.workspace.proofs.rotations.make_rotations.Tie as tie
 
 abbrev Inv-loop : tie.InvT-loop
-Inv-loop n count workspace₀ table tally₀ k₀ workspace tally k =
+Inv-loop n count workspace₀ table saturations₀ k₀ workspace saturations k =
     record {
       below : k ≤ count;
       long : length workspace ≡ length workspace₀;
       words : workspace ≡ rotationsMade n k workspace₀;
-      counted : tally ≡ rotationsTally n k workspace₀;
-      few : CountOf k tally;
+      counted : saturations ≡ saturationsCounted n k workspace₀;
+      few : CountOf k saturations;
     }
 
 abbrev μ-loop : tie.MeasureT-loop
-μ-loop n count workspace₀ table tally₀ k₀ workspace tally k = count - k
+μ-loop n count workspace₀ table saturations₀ k₀ workspace saturations k = count - k
 
 table-requires : tie.Need-table-requires Inv-loop μ-loop
 table-requires c κs = tt
@@ -32,7 +31,7 @@ none-requires : tie.Need-none-requires Inv-loop μ-loop
 none-requires c κs = tt
 
 loop-holds : tie.Need-loop-holds Inv-loop μ-loop
-unfolding rotationsMade rotationsTally
+unfolding rotationsMade saturationsCounted
 loop-holds c = record { below = omega arith; long = refl; words = refl; counted = c .none .ensures; few = rw (c .none .ensures) count-none }
 
 add-make-rotation : tie.Need-add-make-rotation Inv-loop μ-loop
@@ -51,7 +50,7 @@ loop-less : tie.Need-loop-less Inv-loop μ-loop
 loop-less c = omega arith
 
 loop-again : tie.Need-loop-again Inv-loop μ-loop
-unfolding rotationsMade rotationsTally
+unfolding rotationsMade saturationsCounted
 loop-again c =
     let l = c .before .before .before .before .before .before .loop in
     let t = c .before .before .make-rotation in

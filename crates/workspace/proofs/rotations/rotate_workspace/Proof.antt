@@ -9,10 +9,10 @@ use lib.Seq.{take-all}
 use denote.Ref.{now}
 use borrow.Rule.Slice.PartMut.{putMid}
 use borrow.Author.Needs.{needs}
-use Rattle.rotation.specs.declared.Tally.{Tally}
-use Rattle.rotation.specs.Rotated.{rotated, tallyOf}
+use Rattle.rotation.specs.declared.Saturations.{Saturations}
+use Rattle.rotation.specs.Rotated.{rotated, saturationsOf}
 use Rattle.schedule.specs.declared.Rotation.{Rotation}
-use Rattle.workspace.specs.Rotations.{workspaceRotated, workspaceTally}
+use Rattle.workspace.specs.Rotations.{workspaceRotated, workspaceSaturations}
 use Rattle.workspace.proofs.rotations.rotate_workspace.Statement.{statement}
 use Rattle.workspace.proofs.rotations.rotate_workspace.Tie as tie
 
@@ -28,9 +28,9 @@ words-are : (t : Rotation) (l words : List ℤ) → words ≡ rotated (t .column
 unfolding workspaceRotated
 words-are t l words e = rw (e, part-is (t .upper * 32) l, after-is (t .upper * 32) l, append-nil)
 
-tally-is : (t : Rotation) (l : List ℤ) (tally : Tally) → tally ≡ tallyOf (t .column) (t .lower - t .upper) (take (length l - t .upper * 32) (drop (t .upper * 32) l)) → tally ≡ workspaceTally t l
-unfolding workspaceTally
-tally-is t l tally e = e ∙ rw (part-is (t .upper * 32) l)
+saturations-are : (t : Rotation) (l : List ℤ) (saturations : Saturations) → saturations ≡ saturationsOf (t .column) (t .lower - t .upper) (take (length l - t .upper * 32) (drop (t .upper * 32) l)) → saturations ≡ workspaceSaturations t l
+unfolding workspaceSaturations
+saturations-are t l saturations e = e ∙ rw (part-is (t .upper * 32) l)
 
 mul-start : tie.Need-mul-start
 mul-start c = search needs
@@ -59,7 +59,7 @@ same-length c = search needs
 returns : tie.Need-returns
 returns c =
     let a = c .before .before .before .before .before .args in
-    (words-are (a .t) (now (a .workspace)) (c .before .rotate .last .0) (c .before .rotate .ensures .0), tally-is (a .t) (now (a .workspace)) (c .before .rotate .result) (c .before .rotate .ensures .1))
+    (words-are (a .t) (now (a .workspace)) (c .before .rotate .last .0) (c .before .rotate .ensures .0), saturations-are (a .t) (now (a .workspace)) (c .before .rotate .result) (c .before .rotate .ensures .1))
 
 pub rotate-workspace-spec : {M : Type 1} → statement M
 rotate-workspace-spec =
