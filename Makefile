@@ -41,7 +41,7 @@ need-%: FORCE
 	@CC='$(CC)' CXX='$(CXX)' sh tools/need.sh $*
 
 prove build/libhubqr.a build/qr check-tools: | need-platform need-rt
-check-docs check-tools check-format check-rust demands bench figures $(TOOLS)/record $(TOOLS)/instalments: | need-cargo
+check-docs check-tools check-format check-rust demands bench figures $(TOOLS)/record $(TOOLS)/instalments $(TOOLS)/snapshots: | need-cargo
 check-format: | need-rt need-rustfmt need-clippy
 check-tools check-c check-examples bench: | need-cc need-gcc
 check-tools check-c: | need-c++
@@ -83,8 +83,8 @@ build/qr: $(SOURCES)
 $(TOOLS)/record: FORCE
 	@$(CARGO) build --release -p record
 
-$(TOOLS)/instalments: build/libhubqr.a FORCE
-	$(CARGO) build --release -p instalments
+$(TOOLS)/instalments $(TOOLS)/snapshots: build/libhubqr.a FORCE
+	$(CARGO) build --release -p instalments --bin $(@F)
 
 # docs/DEMANDS.md and docs/PINS.md are what docs/demands.txt and the tree give, each promise is pinned, and what the documents cite is there.
 check-docs:
@@ -125,9 +125,11 @@ check-rust: build/libhubqr.a build/qr
 	$(CARGO) run --release -p figures -- build
 	cmp build/errors.svg docs/figures/errors.svg
 
-check-examples: build/libhubqr.a build/qr $(TOOLS)/instalments $(TOOLS)/record
+check-examples: build/libhubqr.a build/qr $(TOOLS)/instalments $(TOOLS)/snapshots $(TOOLS)/record
 	$(CC) $(CFLAGS) -O2 examples/instalments.c build/libhubqr.a -o build/instalments
+	$(CC) $(CFLAGS) -O2 examples/snapshots.c build/libhubqr.a -o build/snapshots
 	sh examples/compare.sh build/instalments $(TOOLS)/instalments
+	sh examples/test-snapshots.sh build/snapshots $(TOOLS)/snapshots build/qr $(TOOLS)/record
 	sh examples/test-run.sh build/qr $(TOOLS)/record
 
 bench: build/libhubqr.a

@@ -6,11 +6,11 @@ use std::ffi::OsStr;
 use std::path::{Path, PathBuf};
 use std::process::Command;
 
-/// A version in C: its name, the turn that it makes, the processor that it is compiled for, and its
-/// sources.
+/// A version in C: its name, the turn that it makes or where its header is, the processor that it is
+/// compiled for, and its sources.
 struct Version {
     name: &'static str,
-    rotate: &'static str,
+    option: &'static str,
     processor: &'static str,
     sources: &'static [&'static str],
 }
@@ -20,21 +20,21 @@ const BASELINE: &str = "x86-64";
 
 const NARROW: Version = Version {
     name: "narrow",
-    rotate: "rotate_narrow",
+    option: "-DROTATE=rotate_narrow",
     processor: BASELINE,
     sources: &["narrow.c", "wide.c", "calls.c"],
 };
 
-const VERSIONS: [Version; 4] = [
+const VERSIONS: [Version; 5] = [
     Version {
         name: "plain",
-        rotate: "rotate_plain",
+        option: "-DROTATE=rotate_plain",
         processor: BASELINE,
         sources: &["plain.c", "calls.c"],
     },
     Version {
         name: "wide",
-        rotate: "rotate_wide",
+        option: "-DROTATE=rotate_wide",
         processor: BASELINE,
         sources: &["wide.c", "calls.c"],
     },
@@ -43,6 +43,12 @@ const VERSIONS: [Version; 4] = [
         name: "narrow_v3",
         processor: "x86-64-v3",
         ..NARROW
+    },
+    Version {
+        name: "covariance",
+        option: "-I../include",
+        processor: BASELINE,
+        sources: &["covariance.c"],
     },
 ];
 
@@ -67,7 +73,11 @@ fn watch() {
     }
     let sources = VERSIONS.iter().flat_map(|version| version.sources.iter());
     let others = [
+        "name.h",
         "version.h",
+        "covariance.h",
+        "../include/hubqr_base.h",
+        "../include/hubqr_covariance.h",
         "double.h",
         "lapack.c",
         "lapack_complex.c",
@@ -93,9 +103,8 @@ fn versions(folder: &Path, compiler: &str) -> bool {
     for version in VERSIONS {
         let name = format!("{compiler}_{}", version.name);
         let prefix = format!("-DVERSION={name}");
-        let rotate = format!("-DROTATE={}", version.rotate);
         let processor = format!("-march={}", version.processor);
-        let flags = ["-std=c11", &processor, &prefix, &rotate];
+        let flags = ["-std=c11", &processor, &prefix, version.option];
         let objects = version.sources.iter().map(|source| {
             let object = folder.join(format!("{name}_{source}.o"));
             compile(compiler, &flags, source, &object);

@@ -1,20 +1,30 @@
-/* Calls whose instructions count.sh counts: MATRICES random matrices by Load, Run and Fetch, and as many others by Whole. */
+/*
+ * Calls whose instructions count.sh counts: MATRICES random matrices by Load, Run and Fetch, and as many others by Whole;
+ * SNAPSHOTS random snapshots added and the sums written after each, by the engine and by the version in C.
+ */
+#include "covariance.h"
 #include "hubqr.h"
 
 #include <stdlib.h>
+#include <string.h>
 
 static int32_t area[HUBQR_AREA_WORDS];
 static uint8_t buffer[HUBQR_RESULT_RECORD_BYTES];
 
-/* A matrix record with any parts. */
-static void draw(uint8_t *record)
+static void draw(void *bytes, size_t count)
 {
     static uint64_t state = 1;
-    record[0] = HUBQR_KIND_MATRIX;
-    for (int k = 1; k < HUBQR_MATRIX_RECORD_BYTES; k++) {
+    for (size_t k = 0; k < count; k++) {
         state = state * UINT64_C(6364136223846793005) + UINT64_C(1442695040888963407);
-        record[k] = (uint8_t)(state >> 56);
+        ((uint8_t *)bytes)[k] = (uint8_t)(state >> 56);
     }
+}
+
+/* A matrix record with any parts. */
+static void draw_record(uint8_t *record)
+{
+    record[0] = HUBQR_KIND_MATRIX;
+    draw(record + 1, HUBQR_MATRIX_RECORD_BYTES - 1);
 }
 
 static int in_parts(const uint8_t *record)
@@ -34,18 +44,39 @@ static int at_once(const uint8_t *record)
         == HUBQR_ACCEPTED;
 }
 
+/* Answers whether the engine and the version in C accept everything and write the same record. */
+static int added(void)
+{
+    struct hubqr_add_reply by_engine = {HUBQR_ACCEPTED, hubqr_sums_none()};
+    struct hubqr_add_reply in_c = by_engine;
+    uint8_t record[HUBQR_MATRIX_RECORD_BYTES], record_in_c[HUBQR_MATRIX_RECORD_BYTES];
+    for (int k = 0; k < SNAPSHOTS; k++) {
+        struct hubqr_snapshot snapshot;
+        draw(&snapshot, sizeof snapshot);
+        by_engine = hubqr_add_snapshot(snapshot, by_engine.sums);
+        in_c = NAME(add_by_value)(snapshot, in_c.sums);
+        if (by_engine.number != HUBQR_ACCEPTED || in_c.number != HUBQR_ACCEPTED
+            || hubqr_write_matrix(by_engine.sums, record, sizeof record) != HUBQR_ACCEPTED
+            || NAME(write_by_value)(in_c.sums, record_in_c, sizeof record_in_c) != HUBQR_ACCEPTED
+            || memcmp(record, record_in_c, sizeof record) != 0) {
+            return 0;
+        }
+    }
+    return 1;
+}
+
 int main(void)
 {
     uint8_t record[HUBQR_MATRIX_RECORD_BYTES];
     for (int k = 0; k < MATRICES; k++) {
-        draw(record);
+        draw_record(record);
         if (!in_parts(record)) {
             return EXIT_FAILURE;
         }
-        draw(record);
+        draw_record(record);
         if (!at_once(record)) {
             return EXIT_FAILURE;
         }
     }
-    return EXIT_SUCCESS;
+    return added() ? EXIT_SUCCESS : EXIT_FAILURE;
 }

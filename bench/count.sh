@@ -9,25 +9,42 @@ if ! command -v valgrind >/dev/null; then
 fi
 archive=${HUBQR_LIB_DIR:-build}/libhubqr.a
 matrices=100
+snapshots=1000
 scratch=$(mktemp -d)
 trap 'rm -rf "$scratch"' EXIT
-cc -std=c11 -O2 -Wall -Wextra -Iinclude -DMATRICES=$matrices bench/count.c "$archive" -o "$scratch/count"
+# The version in C is compiled as the benchmark compiles it.
+gcc -std=c11 -O3 -march=x86-64 -Wall -Wextra -Iinclude -DVERSION=c -c bench/covariance.c -o "$scratch/covariance.o"
+cc -std=c11 -O2 -Wall -Wextra -Iinclude -DMATRICES=$matrices -DSNAPSHOTS=$snapshots -DVERSION=c \
+    bench/count.c "$scratch/covariance.o" "$archive" -o "$scratch/count"
 valgrind --quiet --tool=callgrind --callgrind-out-file="$scratch/calls" "$scratch/count"
-callgrind_annotate --inclusive=yes --threshold=100 "$scratch/calls" | awk -v matrices=$matrices -v style="${1:-plain}" '
-    function row(call, instructions, share) {
-        printf style == "--markdown" ? "| %s | %s | %s |\n" : "%-20s %14s %10s\n", call, instructions, share
+callgrind_annotate --inclusive=yes --threshold=100 "$scratch/calls" |
+    awk -v matrices=$matrices -v snapshots=$snapshots -v style="${1:-plain}" '
+    function row(first, second, third, fourth) {
+        if (style == "--markdown") print "| " first " | " second " | " third " |" (fourth == "" ? "" : " " fourth " |")
+        else printf "%-20s %14s %10s" (fourth == "" ? "%s" : " %10s") "\n", first, second, third, fourth
     }
     function grouped(digits,    end) {
         end = length(digits) - 3
         return end > 0 ? grouped(substr(digits, 1, end)) "," substr(digits, end + 1) : digits
     }
+    function whole_number(value) {
+        return grouped(sprintf("%.0f", value))
+    }
     function counted(call, instructions) {
-        row(call, grouped(sprintf("%.0f", instructions)), sprintf("%.1f%%", 100 * instructions / count["whole"]))
+        row(call, whole_number(instructions), sprintf("%.1f%%", 100 * instructions / count["whole"]))
+    }
+    function compared(call, engine, in_c) {
+        row(call, whole_number(engine), whole_number(in_c), sprintf("%.3f", engine / in_c))
     }
     match($0, /hubqr_(load|run|fetch|whole)/) {
         name = substr($0, RSTART + 6, RLENGTH - 6)
         gsub(",", "", $1)
         count[name] = $1 / matrices
+    }
+    match($0, /(hubqr_add_snapshot|hubqr_write_matrix|c_add_by_value|c_write_by_value)/) {
+        name = substr($0, RSTART, RLENGTH)
+        gsub(",", "", $1)
+        count[name] = $1 / snapshots
     }
     END {
         row("call", "instructions", "of Whole")
@@ -37,4 +54,9 @@ callgrind_annotate --inclusive=yes --threshold=100 "$scratch/calls" | awk -v mat
         counted("Fetch", count["fetch"])
         counted("Whole", count["whole"])
         counted("Whole less Run", count["whole"] - count["run"])
+        print ""
+        row("call", "engine", "C by value", "ratio")
+        if (style == "--markdown") print "|---|--:|--:|--:|"
+        compared("Adding a snapshot", count["hubqr_add_snapshot"], count["c_add_by_value"])
+        compared("Writing the record", count["hubqr_write_matrix"], count["c_write_by_value"])
     }'

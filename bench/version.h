@@ -1,15 +1,10 @@
-/*
- * What the versions in C share. Each is compiled with a name of its own for VERSION, the prefix of all its symbols, so that
- * several stand in one program: where VERSION is gcc_plain, NAME(load) is gcc_plain_load.
- */
+/* What the versions in C of the factorization share. */
 #ifndef VERSION_H
 #define VERSION_H
 
 #include <stdint.h>
 
-#define JOINED(a, b) a##_##b
-#define JOIN(a, b) JOINED(a, b)
-#define NAME(name) JOIN(VERSION, name)
+#include "name.h"
 
 /* Columns before R_COLUMNS hold R, the others Q transposed. */
 enum { ROWS = 16, R_COLUMNS = 16, COLUMNS = 32, STEPS = 28, TURNS = 120 };

@@ -6,6 +6,7 @@
  * other machine, since the Rattle kit, which proves and compiles it, builds for no other.
  *
  * Use
+ *   From snapshots:  hubqr_covariance.h, which this header includes, adds up what the antennas heard and writes a matrix record.
  *   In one call:     hubqr_whole.
  *   In instalments:  hubqr_load, then hubqr_run until the turn number is HUBQR_TURNS, then hubqr_fetch.
  *   Later on:        hubqr_read brings a result record back into an area.
@@ -39,7 +40,8 @@
  *   A call answers by value: a struct, or the number alone where there is nothing else to answer. Each call tests what it is
  *   handed, in the order given with it. The reply's `number` is that of the first test that fails, or HUBQR_ACCEPTED. A refused
  *   call changes no word of the area and no byte of the buffer, and the other fields of its reply are 0, except that hubqr_run
- *   answers in `turn` the turn number it was handed. hubqr_refusal_words says a number in words.
+ *   answers in `turn` the turn number it was handed, and hubqr_add_snapshot the sums it was handed. hubqr_base.h, which all
+ *   headers include, lists the refusals; hubqr_refusal_words says a number in words.
  *
  * Ownership and threads
  *   The caller owns every record, area and buffer, before, during and after a call. The library keeps no pointer, has no state of
@@ -55,30 +57,21 @@
  *
  * Lengths
  *   Lengths are true lengths: bytes for records and buffers, words for areas. An area may be longer than HUBQR_AREA_WORDS and a
- *   buffer longer than HUBQR_RESULT_RECORD_BYTES; what lies behind those sizes is neither read nor written. A record has to have
+ *   buffer longer than the record that is written into it; what lies behind is neither read nor written. A record has to have
  *   exactly its length. Compilers that know the attribute `access`, as gcc does, report a length that the object behind the
  *   pointer does not have, where they can see the object: `sizeof area` handed over for words, for instance.
  *
  * Versions
- *   Header and archive have to be of one version, since another one may have other fields in its replies. A host that is not
+ *   Headers and archive have to be of one version, since another one may have other fields in its replies. A host that is not
  *   sure which archive it was linked with compares hubqr_version() with HUBQR_VERSION.
  */
 #ifndef HUBQR_H
 #define HUBQR_H
 
-#include <stddef.h>
-#include <stdint.h>
+#include "hubqr_base.h"
+#include "hubqr_covariance.h"
 
-/* The version of this header. */
-#define HUBQR_VERSION_MAJOR 0
-#define HUBQR_VERSION_MINOR 3
-#define HUBQR_VERSION_PATCH 0
-#define HUBQR_VERSION (10000 * HUBQR_VERSION_MAJOR + 100 * HUBQR_VERSION_MINOR + HUBQR_VERSION_PATCH)
-
-/* Sizes of the records in bytes, of the area in words, and the number of turns. */
-#define HUBQR_MATRIX_RECORD_BYTES 257
-#define HUBQR_RESULT_RECORD_BYTES 2049
-#define HUBQR_REFUSAL_RECORD_BYTES 2
+/* Words of the area, and the number of turns. */
 #define HUBQR_AREA_WORDS 512
 #define HUBQR_TURNS 120
 
@@ -86,77 +79,13 @@
 #define HUBQR_AREA_ROWS 16
 #define HUBQR_AREA_COLUMNS 32
 
-/* The first byte of a record. */
-#define HUBQR_KIND_MATRIX 0x01
-#define HUBQR_KIND_RESULT 0x02
-#define HUBQR_KIND_REFUSAL 0x03
-
 /* What stands for one in the words of R (2^28) and of Q (2^30). */
 #define HUBQR_R_ONE INT32_C(268435456)
 #define HUBQR_Q_ONE INT32_C(1073741824)
 
-/*
- * What the declarations below tell a compiler that listens; others see nothing. HUBQR_REPLY: the reply has to be looked at, since
- * it says whether the call was refused. The others name a pointer and its length by their places among the parameters:
- * HUBQR_READS what is only read, HUBQR_CHANGES what is read and written, HUBQR_FILLS what need not hold anything before the call.
- */
-#ifdef __has_attribute
-#if __has_attribute(warn_unused_result)
-#define HUBQR_REPLY __attribute__((warn_unused_result))
-#endif
-#if __has_attribute(access)
-#define HUBQR_READS(pointer, length) __attribute__((access(read_only, pointer, length)))
-#define HUBQR_CHANGES(pointer, length) __attribute__((access(read_write, pointer, length)))
-#define HUBQR_FILLS(pointer, length) __attribute__((access(write_only, pointer, length)))
-#endif
-#endif
-#ifndef HUBQR_REPLY
-#define HUBQR_REPLY
-#endif
-#ifndef HUBQR_READS
-#define HUBQR_READS(pointer, length)
-#define HUBQR_CHANGES(pointer, length)
-#define HUBQR_FILLS(pointer, length)
-#endif
-
 #ifdef __cplusplus
 extern "C" {
 #endif
-
-/* The refusals: the name in enum hubqr_refusal, the number, and what hubqr_refusal_words says of it. */
-#define HUBQR_REFUSALS(X)                                                                                                      \
-    X(HUBQR_WRONG_KIND, 1, "the record is empty or its kind byte is not the one expected")                                     \
-    X(HUBQR_WRONG_LENGTH, 2, "the record's length is not 257 bytes for a matrix or 2,049 bytes for a result")                  \
-    X(HUBQR_AREA_TOO_SHORT, 3, "the area has fewer than 512 words")                                                            \
-    X(HUBQR_ALL_ZERO, 4, "all 64 elements of the matrix are zero")                                                             \
-    X(HUBQR_NO_SUCH_TURN, 5, "the turn number is above 120")                                                                   \
-    X(HUBQR_UNFINISHED, 6, "the turn number is under 120, so the result is not finished")                                      \
-    X(HUBQR_BUFFER_TOO_SHORT, 7, "the buffer has fewer than 2,049 bytes")                                                      \
-    X(HUBQR_NOT_TRIANGULAR, 8,                                                                                                 \
-      "R has a word under its diagonal that is not 0, or a negative one among its first 15 diagonal words")
-
-/* What a reply's `number` can be. */
-enum hubqr_refusal {
-    HUBQR_ACCEPTED = 0, /* no test failed, the call has done its work */
-#define HUBQR_REFUSAL_NUMBER(name, number, words) name = number,
-    HUBQR_REFUSALS(HUBQR_REFUSAL_NUMBER)
-#undef HUBQR_REFUSAL_NUMBER
-};
-
-/* A number in words: a sentence without a full stop, "accepted" for 0, "no refusal number" for a number that is none. */
-static inline const char *hubqr_refusal_words(uint8_t number)
-{
-    switch (number) {
-    case HUBQR_ACCEPTED: return "accepted";
-#define HUBQR_REFUSAL_WORDS(name, number, words) case name: return words;
-    HUBQR_REFUSALS(HUBQR_REFUSAL_WORDS)
-#undef HUBQR_REFUSAL_WORDS
-    default: return "no refusal number";
-    }
-}
-
-/* The version of the archive: 10000 * major + 100 * minor + patch. */
-uint32_t hubqr_version(void) HUBQR_REPLY;
 
 /* What Load answers. */
 struct hubqr_load_reply {

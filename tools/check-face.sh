@@ -1,7 +1,7 @@
 #!/bin/sh
 # Checks that all who declare the face of libhubqr.a say what the headers in include/ say, and that these have their attributes:
 #   functions   the archive's symbols; name, parameters and result in host/rust/src/ffi.rs and of the exports in crates/*/src
-#   structs     fields, their order and their types in host/rust/src/ffi.rs, and in crates/*/src where they are marked #[repr(C)]
+#   structs     fields, their order, types and lengths in host/rust/src/ffi.rs, and in crates/*/src where they are marked #[repr(C)]
 #   refusals    number, name and sentence in host/rust/src/refusal.rs; the numbers in crates/refusals/src
 #   version     hubqr_version in crates/*/src, Cargo.toml, host/rust/Cargo.toml
 # tools/face/*.awk read the sources into lines of a key (`function hubqr_load`, `struct load_reply`, ..), a tab and the content.
@@ -37,12 +37,13 @@ rattle() {
     find "$1" -path '*/src/*' -name '*.rt' 2>/dev/null | sort | xargs cat /dev/null
 }
 
-# compare SOURCE KIND...: prints where what a source says, on standard input, is not what the headers say of these kinds.
+# compare SOURCE KIND...: prints where what a source says, on standard input, is not what the headers say of these kinds, and its faults.
 compare() {
     source=$1
     shift
     sort -u | awk -F '\t' -v source="$source" -v kinds=" $* " '
     { kind = $1; sub(/ .*/, "", kind) }
+    said && kind == "fault" { print source ": " $2 }
     index(kinds, " " kind " ") == 0 { next }
     !said { header[$1] = $2; keys[++n] = $1; next }
     { seen[$1] = 1 }

@@ -1,8 +1,9 @@
 //! An earlier archive of the engine, whose calls `build.rs` gave other names.
 
-use hubqr::ffi::{LoadReply, RunReply, WholeReply};
+use hubqr::ffi::{AddReply, LoadReply, RunReply, Snapshot, Sums, WholeReply};
 
 use crate::contenders::{Area, Buffer, Clamps, Contender, Record};
+use crate::covariance::implementations::ByValue;
 
 extern "C" {
     fn earlier_hubqr_version() -> u32;
@@ -28,6 +29,8 @@ extern "C" {
         buffer: &mut Buffer,
         buffer_len: usize,
     ) -> WholeReply;
+    fn earlier_hubqr_add_snapshot(snapshot: Snapshot, sums: Sums) -> AddReply;
+    fn earlier_hubqr_write_matrix(sums: Sums, buffer: *mut u8, buffer_len: usize) -> u8;
 }
 
 pub const CONTENDER: Contender = Contender {
@@ -36,6 +39,11 @@ pub const CONTENDER: Contender = Contender {
     run,
     fetch,
     whole,
+};
+
+pub const ADDING: ByValue = ByValue {
+    add: earlier_hubqr_add_snapshot,
+    write: earlier_hubqr_write_matrix,
 };
 
 /// Says so where the earlier archive's replies may be others than those that are declared here. The

@@ -4,6 +4,7 @@
 mod agree;
 mod clock;
 mod contenders;
+mod covariance;
 mod doubles;
 #[cfg(earlier)]
 mod earlier;
@@ -15,6 +16,7 @@ mod report;
 mod rounds;
 mod stats;
 mod table;
+mod times;
 mod versions;
 
 use std::env;
@@ -43,7 +45,9 @@ fn main() -> ExitCode {
         eprintln!("bench: {message}");
         return ExitCode::FAILURE;
     }
-    print(&options, &Results::measure(options.rounds, options.seed));
+    let (rounds, seed) = (options.rounds, options.seed);
+    print(&options, &rounds::measured(rounds, seed));
+    print_covariance(&options, &covariance::rounds::measured(rounds, seed));
     ExitCode::SUCCESS
 }
 
@@ -56,6 +60,9 @@ fn agree(seed: u64) -> Result<(), String> {
     }
     for comparator in doubles::all() {
         agree::check_double(&comparator, seed)?;
+    }
+    for contender in covariance::contenders::all() {
+        contender.check(seed)?;
     }
     Ok(())
 }
@@ -70,10 +77,7 @@ fn print(options: &Options, results: &Results) {
     for line in contenders::missing() {
         println!("{line}\n");
     }
-    let section = |title: &str, table: Table| match options.markdown {
-        true => println!("### {title}\n\n{}", table.markdown()),
-        false => println!("{title}\n\n{}", table.plain()),
-    };
+    let section = |title, table| section(options, title, table);
     section("All contenders", report::everyone(results));
     println!("{}\n", fallback(options.seed));
     section(
@@ -83,6 +87,19 @@ fn print(options: &Options, results: &Results) {
     section("Nine of ten rounds", report::spreads(results));
     section("Run from turn number 0", report::growth(results));
     section("Calls and Whole", report::shares(results));
+}
+
+fn print_covariance(options: &Options, results: &covariance::rounds::Results) {
+    let everyone = covariance::report::everyone(results);
+    section(options, "Adding snapshots", everyone);
+    println!("{}", covariance::report::words(results));
+}
+
+fn section(options: &Options, title: &str, table: Table) {
+    match options.markdown {
+        true => println!("### {title}\n\n{}", table.markdown()),
+        false => println!("{title}\n\n{}", table.plain()),
+    }
 }
 
 /// What the words of the fallback are like.

@@ -7,6 +7,7 @@ use crate::contenders::{BASE, ENGINE};
 use crate::measure::Measure;
 use crate::rounds::Results;
 use crate::table::{grouped, Table};
+use crate::times::Times;
 
 const NOTHING: &str = "-";
 
@@ -27,8 +28,8 @@ pub fn everyone(results: &Results) -> Table {
         "ns",
         "cycles",
     ]);
-    for name in results.names() {
-        let columns = COMMON.map(|measure| ratio_time_cycles(results, name, measure));
+    for name in results.names(Measure::Whole) {
+        let columns = COMMON.map(|measure| ratio_time_cycles(results, name, BASE.name, measure));
         let name = [name.to_string()].into_iter();
         table.rows.push(name.chain(columns.concat()).collect());
     }
@@ -38,7 +39,7 @@ pub fn everyone(results: &Results) -> Table {
 /// The engine's times where another's are 1.
 pub fn engine_over_others(results: &Results) -> Table {
     let mut table = Table::new(&["engine over", "Whole", "Rotation", "Fallback"]);
-    for other in results.names() {
+    for other in results.names(Measure::Whole) {
         let ratios = COMMON.map(|measure| ratio(results.ratio(ENGINE.name, other, measure)));
         if other != ENGINE.name {
             let name = [other.to_string()].into_iter();
@@ -51,7 +52,7 @@ pub fn engine_over_others(results: &Results) -> Table {
 /// How far apart the rounds are.
 pub fn spreads(results: &Results) -> Table {
     let mut table = Table::new(&["Whole over C plain, gcc", "median", "from", "to"]);
-    for name in results.names() {
+    for name in results.names(Measure::Whole) {
         let spread = results.spread(name, BASE.name, Measure::Whole);
         table.rows.push(vec![
             name.to_string(),
@@ -121,18 +122,24 @@ fn micro_rotations(rotations: u16) -> f64 {
     turns.map(|turn| ((32 - turn.column) * STEPS) as f64).sum()
 }
 
-fn ratio_time_cycles(results: &Results, name: &str, measure: Measure) -> [String; 3] {
-    let time = results.nanoseconds(name, measure);
-    let clock = results.cycles_per_nanosecond();
+/// The ratio of a call's time to the base's, and the time in nanoseconds and in cycles of the core.
+pub fn ratio_time_cycles<M: Copy + PartialEq>(
+    times: &Times<M>,
+    name: &str,
+    base: &str,
+    measure: M,
+) -> [String; 3] {
+    let time = times.nanoseconds(name, measure);
+    let clock = times.cycles_per_nanosecond();
     let cycles = time.zip(clock).map(|(time, clock)| time * clock);
     [
-        ratio(results.ratio(name, BASE.name, measure)),
+        ratio(times.ratio(name, base, measure)),
         number(time),
         number(cycles),
     ]
 }
 
-fn ratio(value: Option<f64>) -> String {
+pub fn ratio(value: Option<f64>) -> String {
     value.map_or(NOTHING.to_string(), |ratio| format!("{ratio:.3}"))
 }
 

@@ -39,7 +39,13 @@ void remember(void)
 
 int unchanged(void)
 {
-    return memcmp(area, area_before, sizeof area) == 0 && memcmp(buffer, buffer_before, sizeof buffer) == 0;
+    return unchanged_from(0);
+}
+
+int unchanged_from(size_t first)
+{
+    return memcmp(area, area_before, sizeof area) == 0 &&
+           memcmp(buffer + first, buffer_before + first, sizeof buffer - first) == 0;
 }
 
 int guards_unchanged(void)

@@ -16,9 +16,13 @@ extern uint8_t buffer[BUFFER_LENT];
 
 /* Fills area and buffer with a pattern that no call writes. */
 void scribble(void);
-/* Remembers area and buffer; `unchanged` compares with that, `guards_unchanged` looks at the guards only. */
+/*
+ * Remembers area and buffer; `unchanged` compares with that, `unchanged_from` leaves out the buffer's bytes before `first`, and
+ * `guards_unchanged` looks at the guards only.
+ */
 void remember(void);
 int unchanged(void);
+int unchanged_from(size_t first);
 int guards_unchanged(void);
 
 /* A matrix record whose elements differ, with both ends of the 16-bit range among them, heard by all antennas. */
@@ -29,5 +33,6 @@ void set_element(uint8_t *record, int row, int column, int16_t real, int16_t ima
 void test_face(void);
 void test_accepted(void);
 void test_refused(void);
+void test_covariance(void);
 
 #endif

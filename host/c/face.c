@@ -1,4 +1,4 @@
-/* What the header says by itself: sizes and places that the archive was compiled with, the version, the refusals in words. */
+/* What the headers say by themselves: sizes and places that the archive was compiled with, the version, the refusals in words. */
 #include "check.h"
 
 #include <string.h>
@@ -28,9 +28,26 @@ PLACE(hubqr_whole_reply, heard, 1);
 PLACE(hubqr_whole_reply, clamps_r, 4);
 PLACE(hubqr_whole_reply, clamps_q, 8);
 
+SIZE(hubqr_sample, 4);
+PLACE(hubqr_sample, re, 0);
+PLACE(hubqr_sample, im, 2);
+
+SIZE(hubqr_snapshot, 32);
+PLACE(hubqr_snapshot, samples, 0);
+
+SIZE(hubqr_sums, 1032);
+PLACE(hubqr_sums, count, 0);
+PLACE(hubqr_sums, words, 8);
+
+SIZE(hubqr_add_reply, 1040);
+PLACE(hubqr_add_reply, number, 0);
+PLACE(hubqr_add_reply, sums, 8);
+
 _Static_assert(HUBQR_VERSION_MINOR < 100 && HUBQR_VERSION_PATCH < 100, "two digits each in HUBQR_VERSION");
 _Static_assert(HUBQR_AREA_ROWS * HUBQR_AREA_COLUMNS == HUBQR_AREA_WORDS, "the area's shape");
 _Static_assert(HUBQR_MATRIX_RECORD_BYTES == 1 + 64 * 4, "64 elements of four bytes behind the kind byte");
+_Static_assert(HUBQR_SUM_WORDS == 2 * HUBQR_ANTENNAS * HUBQR_ANTENNAS, "a real and an imaginary sum for each element");
+_Static_assert(HUBQR_MATRIX_RECORD_BYTES == 1 + 2 * HUBQR_SUM_WORDS, "a part of two bytes for each sum behind the kind byte");
 _Static_assert(HUBQR_RESULT_RECORD_BYTES == 1 + HUBQR_AREA_WORDS * 4, "the area's words behind the kind byte");
 
 /* The numbers of the refusals, in the header's order. */

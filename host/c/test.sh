@@ -1,5 +1,5 @@
 #!/bin/sh
-# The header and the archive agree, from C and from C++, by each compiler: CC and CXX, or cc and c++, and besides them clang and clang++ where
+# The headers and the archive agree, from C and from C++, by each compiler: CC and CXX, or cc and c++, and besides them clang and clang++ where
 # installed. The tests in C run under valgrind too, where that is installed. Says plainly what is left out. Run from the top of the repository.
 set -u
 cd "$(dirname "$0")/../.." || exit 1

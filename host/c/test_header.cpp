@@ -1,6 +1,7 @@
-// Shows that hubqr.h is a C++ header too: it compiles as C++17 and its functions link by their C names.
+// Shows that hubqr.h and what it includes are C++ headers too: they compile as C++17 and their functions link by their C names.
 #include "hubqr.h"
 
+#include <algorithm>
 #include <array>
 #include <cstdio>
 #include <string_view>
@@ -39,10 +40,27 @@ static bool refused()
     return loaded.number == HUBQR_WRONG_KIND && fetched == HUBQR_BUFFER_TOO_SHORT;
 }
 
+// 1 + 2i times the conjugate of 3 + 4i is 11 + 2i; the samples are 256 times that.
+static bool covariance()
+{
+    hubqr_snapshot snapshot{};
+    snapshot.samples[0] = {256, 512};
+    snapshot.samples[1] = {768, 1024};
+    hubqr_sums sums = hubqr_sums_none();
+    bool none = hubqr_write_matrix(sums, record.data(), record.size()) == HUBQR_NONE_ADDED;
+    auto added = hubqr_add_snapshot(snapshot, sums);
+    bool by_pointer = hubqr_add_snapshot_at(&sums, snapshot) == HUBQR_ACCEPTED;
+    bool same = sums.count == 1 && std::equal(sums.words, sums.words + HUBQR_SUM_WORDS, added.sums.words);
+    bool written = hubqr_write_matrix_at(&sums, record.data(), record.size()) == HUBQR_ACCEPTED;
+    auto loaded = hubqr_load(record.data(), record.size(), area.data(), area.size());
+    return none && added.number == HUBQR_ACCEPTED && added.sums.count == 1 && by_pointer && same && written && record[6] == 11 &&
+           record[8] == 2 && loaded.number == HUBQR_ACCEPTED && loaded.heard == 3;
+}
+
 int main()
 {
     bool named = hubqr_version() == HUBQR_VERSION && hubqr_refusal_words(HUBQR_ACCEPTED) == std::string_view("accepted");
-    bool holds = accepted() && clamped() && refused() && named;
+    bool holds = accepted() && clamped() && refused() && covariance() && named;
     std::puts(holds ? "hubqr C++ face: passed" : "hubqr C++ face: FAILED");
     return holds ? 0 : 1;
 }

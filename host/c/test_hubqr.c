@@ -1,5 +1,5 @@
 /*
- * Shows that hubqr.h and libhubqr.a agree: calls each function on accepted and refused input and checks every reply, word and
+ * Shows that the headers and libhubqr.a agree: calls each function on accepted and refused input and checks every reply, word and
  * byte. Ends at the first check that fails.
  */
 #include "check.h"
@@ -11,6 +11,7 @@ int main(void)
     test_face();
     test_accepted();
     test_refused();
+    test_covariance();
     printf("hubqr C face: %u checks passed\n", checks_passed());
     return 0;
 }

@@ -1,4 +1,4 @@
-//! The five calls, each with its tests in the order of the specification.
+//! The five calls of the factorization, each with its tests in the order of the specification.
 //!
 //! A refused call changes nothing: every call makes all its tests before it writes.
 

@@ -1,5 +1,6 @@
 //! Test matrices of different kinds. Load accepts every one of them.
 
+use crate::covariance::{add, Sums};
 use crate::matrix::{Complex, Matrix, ANTENNAS};
 use crate::random::Random;
 
@@ -168,29 +169,19 @@ fn rank_one(random: &mut Random) -> Matrix {
     })
 }
 
-/// Element (i, j) is the sum of sample i times the conjugate of sample j over the snapshots,
-/// divided by 65,536 times their count toward zero, and at most 32,767.
+/// The matrix of a few snapshots, with antennas of different strength.
 fn covariance(random: &mut Random) -> Matrix {
     let count = random.between(1, 12);
     let strength: [u32; ANTENNAS] = std::array::from_fn(|_| random.below(4) as u32);
-    let snapshots: Vec<[(i64, i64); ANTENNAS]> = (0..count)
-        .map(|_| {
-            strength.map(|shift| {
-                let sample = any(random);
-                (i64::from(sample.re >> shift), i64::from(sample.im >> shift))
-            })
-        })
-        .collect();
-    let mean = |sum: i64| (sum / (65_536 * count)).min(i64::from(HIGHEST)) as i16;
-    Matrix::from_fn(|i, j| {
-        let (mut re, mut im) = (0, 0);
-        for snapshot in &snapshots {
-            let ((a, b), (c, d)) = (snapshot[i], snapshot[j]);
-            re += a * c + b * d;
-            im += b * c - a * d;
-        }
-        Complex::new(mean(re), mean(im))
-    })
+    let mut sums = Sums::NONE;
+    for _ in 0..count {
+        let snapshot = strength.map(|shift| {
+            let sample = any(random);
+            Complex::new(sample.re >> shift, sample.im >> shift)
+        });
+        sums = add(&snapshot, &sums).sums;
+    }
+    sums.matrix()
 }
 
 fn sparse(random: &mut Random) -> Matrix {

@@ -1,4 +1,4 @@
-//! The refusal numbers and the replies of the five calls.
+//! The refusal numbers, and the replies of the five calls of the factorization.
 
 use crate::clamps::Clamps;
 
@@ -18,10 +18,14 @@ pub enum Refusal {
     Turn = 5,
     /// The turn number is under 120 at Fetch.
     Unfinished = 6,
-    /// The buffer has under 2,049 bytes.
+    /// The buffer has under 2,049 bytes, or under 257 where a matrix record is to be written.
     Buffer = 7,
     /// R is not upper triangular, or one of its first 15 diagonal words is negative.
     Triangle = 8,
+    /// A matrix record is to be written of no snapshot.
+    NoSnapshot = 9,
+    /// A snapshot after 4,096, a count above 4,096, or a sum beyond 2^31 times the count.
+    Sums = 10,
 }
 
 impl Refusal {

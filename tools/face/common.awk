@@ -1,5 +1,6 @@
 # What the readers of declarations share. A reader finds its whole input in `text` at the end, and says what it read as lines of a key, a
-# tab, and the content in one spelling: types as Rust writes them, a struct's name as C has it without hubqr_.
+# tab, and the content in one spelling: types as Rust writes them, a struct's name as C has it without hubqr_. What it does not understand
+# becomes a line `fault`.
 
 { text = text $0 "\n" }
 
@@ -37,9 +38,12 @@ function value(text,   terms, factors, n, m, k, j, product, sum) {
     return sum
 }
 
-function factor(text) {
+# A name that is no constant of the same sources has no value: two of them must not pass for the same length.
+function factor(text,   digits) {
     sub(/^.*::/, "", text)
     if (text in constant) return value(constant[text])
-    gsub(/_|u32|usize/, "", text)
-    return text + 0
+    digits = text
+    gsub(/_|u32|usize/, "", digits)
+    if (digits !~ /^[0-9]+$/) say("fault", "not understood: " text)
+    return digits + 0
 }

@@ -1,5 +1,4 @@
-# Reads the headers: functions, structs, refusals and the version. What is not understood, and an attribute that a function lacks,
-# becomes a line `fault`.
+# Reads the headers: functions, structs, refusals and the version. An attribute that a function lacks is a fault too.
 
 BEGIN {
     n = split("uint8_t u8 uint16_t u16 uint32_t u32 uint64_t u64 int8_t i8 int16_t i16 int32_t i32 int64_t i64 " \

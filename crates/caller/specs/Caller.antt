@@ -1,5 +1,5 @@
--- Calls one after the other, each on the words and the turn number that the one before left: all replies, and what is left in every lent buffer, on
--- all inputs. Assumes nothing.
+-- Calls one after the other, each on the words and the turn number, or on the sums, that the one before left: all replies, and what is left in every
+-- lent buffer, on all inputs. Assumes nothing.
 use mathlib.Core.List.{List}
 use Prim.Native.Nat.{ℕ}
 use lib.IntN.{ℤ}
@@ -8,9 +8,14 @@ use Rattle.engine.specs.Run.{runOf}
 use Rattle.engine.specs.Fetch.{fetchOf}
 use Rattle.engine.specs.Read.{readOf}
 use Rattle.engine.specs.Whole.{wholeOf}
+use Rattle.covariance.specs.declared.Sample.{Sample}
+use Rattle.covariance.specs.Sums.{sumsNone}
+use Rattle.covariance.specs.AddSnapshot.{addOf}
+use Rattle.covariance.specs.WriteMatrix.{writeOf}
 use Rattle.caller.specs.declared.HalvesReply.{HalvesReply}
 use Rattle.caller.specs.declared.AgainReply.{AgainReply}
 use Rattle.caller.specs.declared.CopyReply.{CopyReply}
+use Rattle.caller.specs.declared.PairReply.{PairReply}
 
 pub record HalvesOutcome : Type 0 where
   pub reply : HalvesReply
@@ -54,3 +59,15 @@ copyOf rec workspace buffer copy =
     let done = wholeOf rec workspace buffer in
     let fetched = fetchOf 120 (done .workspace) copy in
     record { reply = record { whole = done .reply; number = fetched .number }; workspace = done .workspace; buffer = done .buffer; copy = fetched .buffer }
+
+pub record PairOutcome : Type 0 where
+  pub reply : PairReply
+  pub buffer : List ℕ
+
+-- two snapshots added to none, and the record of the sums
+unfoldable pub pairOf : List Sample → List Sample → List ℕ → PairOutcome
+pairOf first second buffer =
+    let one = addOf first sumsNone in
+    let two = addOf second (one .sums) in
+    let written = writeOf (two .sums) buffer in
+    record { reply = record { first = one .number; second = two .number; written = written .number }; buffer = written .buffer }

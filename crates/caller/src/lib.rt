@@ -1,12 +1,13 @@
-// A caller of the five calls, proved from their contracts alone: a factorization in two instalments, a stored result fetched again, and a copy
-// of a result. Each answers the replies of all calls that it makes, so that whoever calls it sees the first refusal. The words here are document
+// A caller of all calls, proved from their contracts alone: a factorization in two instalments, a stored result fetched again, a copy of a result,
+// and the matrix of two snapshots. Each answers the replies of all calls that it makes, so that whoever calls it sees the first refusal. The words here are document
 // 01's own.
 use engine::load::LoadReply;
 use engine::read::ReadReply;
 use engine::run::RunReply;
 use engine::whole::WholeReply;
+use hubqr::snapshots::Snapshot;
 ghost use mathlib.Core.Path.{_≡_};
-ghost use Rattle.caller.specs.Caller.{HalvesOutcome, halvesOf, AgainOutcome, againOf, CopyOutcome, copyOf};
+ghost use Rattle.caller.specs.Caller.{HalvesOutcome, halvesOf, AgainOutcome, againOf, CopyOutcome, copyOf, PairOutcome, pairOf};
 
 // The turns of one instalment: half of them.
 const HALF: u16 = 60;
@@ -29,6 +30,13 @@ pub struct AgainReply {
 pub struct CopyReply {
     pub whole: WholeReply,
     pub number: u8,
+}
+
+// The numbers of both additions and of the writing.
+pub struct PairReply {
+    pub first: u8,
+    pub second: u8,
+    pub written: u8,
 }
 
 // Load, the turns in two halves, and Fetch.
@@ -63,4 +71,21 @@ pub fn fetch_copy(bytes: &[u8], area: &mut [i32], buffer: &mut [u8], copy: &mut 
     let whole = hubqr::hubqr_whole(bytes, area, buffer);
     let number = hubqr::hubqr_fetch(120, area, copy);
     CopyReply { whole, number }
+}
+
+// Two snapshots added up, and the matrix record of the sums.
+pub fn matrix_of_two(first: Snapshot, second: Snapshot, buffer: &mut [u8]) -> PairReply
+    ensures { λ r. ⌜ record { reply = r; buffer = now (buffer .exit) } ≡ pairOf (first .samples) (second .samples) (now (buffer .entry)) ⌝ }
+{
+    let none = hubqr::snapshots::hubqr_sums_none();
+    let one = hubqr::snapshots::hubqr_add_snapshot(first, none);
+    let sum = one.sums;
+    let two = hubqr::snapshots::hubqr_add_snapshot(second, sum);
+    let sums = two.sums;
+    let written = hubqr::snapshots::hubqr_write_matrix(sums, buffer);
+    PairReply {
+        first: one.number,
+        second: two.number,
+        written,
+    }
 }

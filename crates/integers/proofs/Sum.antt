@@ -1,4 +1,4 @@
--- Sums over the rows: equal terms, one row taken out, two rows taken out, and bounds.
+-- Sums over the rows: equal terms, the first term, negatives, one row taken out, two rows taken out, and bounds.
 -- Assumes nothing.
 use mathlib.Core.Path.{_≡_, refl, sym, ap, _∙_, subst}
 use mathlib.Core.Logic.{_≢_, _⊎_, inl, inr}
@@ -9,7 +9,7 @@ use native.Mathlib.Decide.{ℕ-discrete}
 use native.Mathlib.Omega.{arith}
 use lib.Dec.{eqb}
 use borrow.Author.Tests.{eq-eqb, ne-eqb}
-use lib.IntN.{ℤ, pos, natAbs, _+ℤ_, +ℤ-assoc, +ℤ-comm, +ℤ-idl, +ℤ-idr}
+use lib.IntN.{ℤ, pos, negℤ, natAbs, _+ℤ_, +ℤ-assoc, +ℤ-comm, +ℤ-idl, +ℤ-idr, negℤ-+ℤ}
 use Rattle.integers.specs.Sum.{sum, total}
 use Rattle.integers.proofs.Laws.{swap-right, abs-+}
 
@@ -24,6 +24,20 @@ pub sum-zero : (n : ℕ) {f : ℕ → ℤ} → ((r : ℕ) → r < n → f r ≡ 
 unfolding sum
 sum-zero zero h = refl
 sum-zero (suc n) {f} h = ap (λ x. x +ℤ f n) (sum-zero n (λ r l. h r (omega arith))) ∙ +ℤ-idl (f n) ∙ h n (le-refl (suc n))
+
+-- ---- other shapes
+
+-- the first term taken out
+pub sum-first : (n : ℕ) (f : ℕ → ℤ) → sum (suc n) f ≡ f 0 +ℤ sum n (λ r. f (suc r))
+unfolding sum
+sum-first zero f = +ℤ-idl (f 0) ∙ sym (+ℤ-idr (f 0))
+sum-first (suc n) f = ap (λ x. x +ℤ f (suc n)) (sum-first n f) ∙ +ℤ-assoc (f 0) (sum n (λ r. f (suc r))) (f (suc n))
+
+-- the negative of each term
+pub sum-neg : (n : ℕ) (f : ℕ → ℤ) → sum n (λ r. negℤ (f r)) ≡ negℤ (sum n f)
+unfolding sum
+sum-neg zero f = refl
+sum-neg (suc n) f = ap (λ x. x +ℤ negℤ (f n)) (sum-neg n f) ∙ sym (negℤ-+ℤ (sum n f) (f n))
 
 -- ---- a row taken out
 

@@ -47,14 +47,17 @@ pub fill-over : {A : Type 0} (n : ℕ) (f : ℕ → A) (d : List A) (i : ℕ) (v
 unfolding filled
 fill-over {A} n f d i v l = ap (λ (r : List A). tabulate n f ++ r) (drop-set-lt n d i v l)
 
--- four stores
+-- two stores, and four
+pub fill-two : {A : Type 0} {n : ℕ} {f : ℕ → A} {d a : List A} {k : ℕ} {v w : A} → Filling n f d k a → k + 2 ≤ n → n ≤ length d → v ≡ f k → w ≡ f (k + 1) → Filling n f d (k + 2) (set (set a k v) (k + 1) w)
+fill-two {k} h l room e₀ e₁ =
+    let two : k + 1 + 1 ≡ k + 2 = omega arith in
+    rw two at (fill-more (fill-more h (omega arith) room e₀) (omega arith) room e₁)
+
 pub fill-four : {A : Type 0} {n : ℕ} {f : ℕ → A} {d a : List A} {k : ℕ} {v w x y : A} → Filling n f d k a → k + 4 ≤ n → n ≤ length d → v ≡ f k → w ≡ f (k + 1) → x ≡ f (k + 2) → y ≡ f (k + 3) → Filling n f d (k + 4) (set (set (set (set a k v) (k + 1) w) (k + 2) x) (k + 3) y)
 fill-four {k} h l room e₀ e₁ e₂ e₃ =
-    let two : k + 1 + 1 ≡ k + 2 = omega arith in
     let three : k + 2 + 1 ≡ k + 3 = omega arith in
     let four : k + 3 + 1 ≡ k + 4 = omega arith in
-    let a = fill-more h (omega arith) room e₀ in
-    let b = rw two at (fill-more a (omega arith) room e₁) in
+    let b = fill-two h (omega arith) room e₀ e₁ in
     let c = rw three at (fill-more b (omega arith) room e₂) in
     rw four at (fill-more c (omega arith) room e₃)
 

@@ -1,2 +1,3 @@
 -- Laws of the matrix record that several proofs cite.
 pub mod MatrixRecord
+pub mod Written

@@ -1,13 +1,14 @@
--- Document 01, "Matrix record" and "The words": the elements of a matrix record, the real matrix made of them, and the heard byte. Assumes nothing.
-use Prim.Native.Nat.{ℕ, zero, suc, _+_, _*_, _%_, _^_}
+-- Document 01, "Matrix record" and "The words": the elements of a matrix record, the record of elements, the real matrix made of them, and the heard
+-- byte. Assumes nothing.
+use Prim.Native.Nat.{ℕ, zero, suc, _+_, _-_, _*_, _/_, _%_, _^_}
 use mathlib.Core.Bool.{Bool, _&&_, cond}
 use mathlib.Core.List.{List}
-use lib.Dec.{ltb}
+use lib.Dec.{ltb, eqb}
 use lib.IntN.{ℤ, negℤ}
 use lib.ListN.{getD}
 use Rattle.integers.specs.Matrix.{Matrix, isZero}
-use Rattle.lists.specs.Lists.{allBelow}
-use Rattle.words.specs.Words.{int16}
+use Rattle.lists.specs.Lists.{tabulate, allBelow}
+use Rattle.words.specs.Words.{int16, int16Byte}
 use Rattle.refusals.specs.Refusals.{silent, failsIf}
 
 -- the tag (document 01's kind byte) and the length of a matrix record
@@ -20,6 +21,13 @@ matrixBytes = 257
 -- the real part (q is 0) and the imaginary part (q is 1) of element e: 64 elements row by row, four bytes each
 unfoldable pub partOf : List ℕ → ℕ → ℕ → ℤ
 partOf rec e q = int16 (getD rec (1 + 4 * e + 2 * q) 0) (getD rec (1 + 4 * e + 2 * q + 1) 0)
+
+-- byte p of the record in which element e has these parts: the tag, then the two bytes of each part
+unfoldable pub matrixByte : (ℕ → ℕ → ℤ) → ℕ → ℕ
+matrixByte part p = cond (eqb p 0) matrixTag (int16Byte (part ((p - 1) / 4) ((p - 1) / 2 % 2)) ((p - 1) % 2))
+
+unfoldable pub matrixRecord : (ℕ → ℕ → ℤ) → List ℕ
+matrixRecord part = tabulate matrixBytes (matrixByte part)
 
 -- the input made real, 16 by 16: real parts upper left and lower right, imaginary parts lower left, their negatives upper right
 unfoldable pub realEntry : List ℕ → Matrix

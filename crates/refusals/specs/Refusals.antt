@@ -1,4 +1,4 @@
--- Document 01, the table of numbers under "Calls and the order of tests". Each test of a call yields its number where it fails and 0 where it passes, and
+-- Document 01, the table of numbers under "Calls and the order of tests", and the new numbers of document 02. Each test of a call yields its number where it fails and 0 where it passes, and
 -- `first` of the tests, in the sequence listed, is the number of the first that fails, or 0 where none does. Assumes nothing.
 use Prim.Native.Nat.{ℕ, zero, suc}
 use mathlib.Core.Bool.{Bool, cond}
@@ -39,6 +39,14 @@ shortBuffer = 7
 -- R is not the R of a finished result
 abbrev pub notTriangular : ℕ
 notTriangular = 8
+
+-- no snapshot is added up (document 02, U2)
+abbrev pub noneAdded : ℕ
+noneAdded = 9
+
+-- 4,096 snapshots are added up already, the count is above that, or a sum is beyond its range (document 02, U2)
+abbrev pub sumsOutOfRange : ℕ
+sumsOutOfRange = 10
 
 -- ---- tests in sequence
 

@@ -1,14 +1,29 @@
--- A word and its four bytes: reading what was written gives the word, and writing what was read gives the bytes. Assumes nothing.
+-- A word and its four bytes, and a 16-bit number and its two: reading what was written gives the word, and writing what was read gives the bytes.
+-- Assumes nothing.
 use mathlib.Core.Path.{_≡_, ap, _∙_}
 use Prim.Native.Nat.{ℕ, zero, suc, _+_, _*_, _-_, _/_, _%_, _<_}
 use mathlib.Core.List.{[], _∷_}
 use native.Mathlib.Nat.{div-one, div-add-mod', div-div-eq-div-mul, mod-eq-of-lt}
 use native.Mathlib.Omega.{arith}
 use lib.IntN.{ℤ}
-use mir.Syntax.{w32}
+use mir.Syntax.{w16, w32}
 use mir.Val.{SFits, toZ, ofZ}
 use mir.Facts.{toZ-ofZ, ofZ-toZ, fits-ofZ}
-use Rattle.words.specs.Words.{int32, byteOf, wordBytes}
+use Rattle.words.specs.Words.{int16, int16Byte, int16Bytes, int32, byteOf, wordBytes}
+
+-- ---- 16 bits
+
+pub int16-again : (z : ℤ) → SFits w16 z → int16 (int16Byte z 0) (int16Byte z 1) ≡ z
+int16-again z f = ap (toZ w16) (two-digits (ofZ w16 z) (fits-ofZ f .fits)) ∙ toZ-ofZ f
+  where
+    two-digits : (n : ℕ) → n < 65536 → n / 256 % 256 * 256 + n / 1 % 256 ≡ n
+    two-digits n h = let t : n / 256 < 256 = omega arith in rw (div-one n, mod-eq-of-lt t) (div-add-mod' n 256)
+
+-- the two digits of a number's bits are its bytes
+pub int16-bytes-are : (n : ℕ) (z : ℤ) → n ≡ ofZ w16 z → n < 65536 → (n / 256 ∷ n % 256 ∷ []) ≡ int16Bytes z
+int16-bytes-are n z e h = let t : n / 256 < 256 = omega arith in rw (← e, mod-eq-of-lt t, div-one)
+
+-- ---- 32 bits
 
 -- four digits to base 256: x is the number, p, q and r its quotients
 join : (x p q r a b c d : ℕ) → p * 256 + d ≡ x → q * 256 + c ≡ p → r * 256 + b ≡ q → a ≡ r → a * 16777216 + b * 65536 + c * 256 + d ≡ x

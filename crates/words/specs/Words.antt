@@ -10,6 +10,14 @@ use mir.Val.{toZ, ofZ}
 abbrev pub int16 : ℕ → ℕ → ℤ
 int16 high low = toZ w16 (high * 256 + low)
 
+-- byte number p of a signed 16-bit number, 0 or 1, high byte first
+abbrev pub int16Byte : ℤ → ℕ → ℕ
+int16Byte z p = ofZ w16 z / 2 ^ (8 - 8 * p) % 256
+
+-- its two bytes
+abbrev pub int16Bytes : ℤ → List ℕ
+int16Bytes z = int16Byte z 0 ∷ int16Byte z 1 ∷ []
+
 -- the signed 32-bit word in four bytes
 abbrev pub int32 : ℕ → ℕ → ℕ → ℕ → ℤ
 int32 a b c d = toZ w32 (a * 16777216 + b * 65536 + c * 256 + d)

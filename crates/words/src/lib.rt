@@ -2,9 +2,9 @@
 ghost use mathlib.Core.Path.{_≡_};
 ghost use Prim.Native.Nat.{_<_};
 ghost use lib.Signed.{mag};
-ghost use mir.Syntax.{w32};
+ghost use mir.Syntax.{w16, w32};
 ghost use mir.Val.{toZ, ofZ};
-ghost use Rattle.words.specs.Words.{int16, int32, wordBytes};
+ghost use Rattle.words.specs.Words.{int16, int16Bytes, int32, wordBytes};
 
 // The signed 16-bit number in two bytes.
 pub fn signed16(high: u8, low: u8) -> i32
@@ -17,6 +17,27 @@ pub fn signed16(high: u8, low: u8) -> i32
     } else {
         n as i32 - 65536
     }
+}
+
+// The 16 bits of a signed number.
+fn to_bits16(z: i16) -> u16
+    ensures { λ r. ⌜ r ≡ ofZ w16 z ⌝ }
+{
+    if z < 0 {
+        (z as i32 + 65536) as u16
+    } else {
+        z as u16
+    }
+}
+
+// The two bytes of a signed 16-bit number, high byte first.
+pub fn int16_bytes(z: i16) -> [u8; 2]
+    ensures { λ r. ⌜ r ≡ int16Bytes z ⌝ }
+{
+    let n = to_bits16(z);
+    let a = (n / 256) as u8;
+    let b = (n % 256) as u8;
+    [a, b]
 }
 
 // The signed number that 32 bits stand for.

@@ -216,7 +216,7 @@ pub fn version() -> u32 {
 /// The outcome that a reply's number stands for. The contracts give 0 and the numbers of refusals
 /// only, so another one means that it is not the archive these declarations were written for:
 /// nothing it left in the lent memory could be trusted.
-fn accepted(number: u8) -> Result<(), Refusal> {
+pub(crate) fn accepted(number: u8) -> Result<(), Refusal> {
     if number == 0 {
         return Ok(());
     }

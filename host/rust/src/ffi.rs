@@ -1,6 +1,6 @@
-//! What `libhubqr.a` exports, declared as `include/hubqr.h` declares it, which has the rules of each
-//! call. `tools/check-face.sh` compares these lines with the header, with the archive's symbols and
-//! with the sources that the archive is made of.
+//! What `libhubqr.a` exports, declared as the headers in `include/` declare it, which have the rules
+//! of each call. `tools/check-face.sh` compares these lines with the headers, with the archive's
+//! symbols and with the sources that the archive is made of.
 //!
 //! A pointer may be null only where its length is 0, and the record, the area and the buffer of a
 //! call may not overlap. In every reply `number` is 0 for an accepted call, and the refusal's number
@@ -58,6 +58,44 @@ pub struct WholeReply {
     pub clamps_q: u32,
 }
 
+/// What one antenna heard at one instant: a complex number.
+#[repr(C)]
+#[derive(Clone, Copy, Debug, Default, PartialEq, Eq)]
+pub struct Sample {
+    /// The real part.
+    pub re: i16,
+    /// The imaginary part.
+    pub im: i16,
+}
+
+/// What all antennas heard at one instant.
+#[repr(C)]
+#[derive(Clone, Copy, Debug, PartialEq, Eq)]
+pub struct Snapshot {
+    /// That of antenna k at place k.
+    pub samples: [Sample; 8],
+}
+
+/// What has been added up.
+#[repr(C)]
+#[derive(Clone, Copy, Debug, PartialEq, Eq)]
+pub struct Sums {
+    /// How many snapshots.
+    pub count: u32,
+    /// Part q of element (i, j) at place 2 * (8 * i + j) + q.
+    pub words: [i64; 128],
+}
+
+/// What adding a snapshot answers.
+#[repr(C)]
+#[derive(Clone, Copy, Debug, PartialEq, Eq)]
+pub struct AddReply {
+    /// 0, or the refusal's number.
+    pub number: u8,
+    /// The sums with the snapshot added; of a refused call, those that it was handed.
+    pub sums: Sums,
+}
+
 extern "C" {
     /// The archive's version: 10000 * major + 100 * minor + patch.
     pub fn hubqr_version() -> u32;
@@ -99,4 +137,13 @@ extern "C" {
         buffer: *mut u8,
         buffer_len: usize,
     ) -> WholeReply;
+
+    /// No snapshot added: the count and all sums are 0.
+    pub fn hubqr_sums_none() -> Sums;
+
+    /// Adds a snapshot to the sums.
+    pub fn hubqr_add_snapshot(snapshot: Snapshot, sums: Sums) -> AddReply;
+
+    /// Writes the matrix record of the sums, and answers the number alone.
+    pub fn hubqr_write_matrix(sums: Sums, buffer: *mut u8, buffer_len: usize) -> u8;
 }

@@ -17,6 +17,9 @@
 //!
 //! A **result record** has 2,049 bytes: the kind byte 2, then R row by row, then Q transposed.
 //!
+//! A **snapshot** is what the eight antennas heard at one instant, a complex sample of each.
+//! [`Covariance`] adds snapshots up and writes the matrix record of the sums.
+//!
 //! Areas and buffers may be longer than needed: what lies behind is not touched. A refused call
 //! changes nothing that it was lent.
 //!
@@ -52,11 +55,29 @@
 //! hubqr::fetch(turn, &area, &mut result)?;
 //! # Ok::<(), hubqr::Refusal>(())
 //! ```
+//!
+//! # From snapshots
+//!
+//! ```
+//! use hubqr::{Covariance, Sample, ANTENNAS};
+//! # let snapshots = [[Sample { re: 300, im: -400 }; ANTENNAS]; 2];
+//!
+//! let mut covariance = Covariance::new();
+//! for snapshot in snapshots {
+//!     covariance.add(snapshot)?; // eight samples, that of antenna k at place k
+//! }
+//! let mut record = [0; hubqr::MATRIX_RECORD_BYTES];
+//! covariance.write(&mut record)?; // for `whole` or `load`
+//! # assert_eq!(record[..5], [1, 0, 3, 0, 0]);
+//! # Ok::<(), hubqr::Refusal>(())
+//! ```
 #![no_std]
 #![warn(missing_docs)]
 
 #[cfg(feature = "archive")]
 mod calls;
+#[cfg(feature = "archive")]
+mod covariance;
 #[cfg(feature = "archive")]
 pub mod ffi;
 mod refusal;
@@ -65,6 +86,10 @@ mod refusal;
 pub use calls::{fetch, load, read, run, version, whole};
 #[cfg(feature = "archive")]
 pub use calls::{Clamps, Factored, Loaded, Progress, Restored};
+#[cfg(feature = "archive")]
+pub use covariance::Covariance;
+#[cfg(feature = "archive")]
+pub use ffi::Sample;
 pub use refusal::{Refusal, UnknownNumber};
 
 /// The version of this crate as a number, 10000 * major + 100 * minor + patch. The archive answers
@@ -94,6 +119,12 @@ pub const REFUSAL_RECORD_BYTES: usize = 2;
 pub const AREA_WORDS: usize = 512;
 /// Turns that make R and Q of a loaded matrix.
 pub const TURNS: u32 = 120;
+/// Antennas of a hub, and so samples of a snapshot.
+pub const ANTENNAS: usize = 8;
+/// The most snapshots that are added up.
+pub const SNAPSHOTS_MAX: u32 = 4096;
+/// Sums that snapshots add up to: two for each of the 64 elements of the matrix.
+pub const SUM_WORDS: usize = 128;
 
 /// First byte of a matrix record.
 pub const KIND_MATRIX: u8 = 1;

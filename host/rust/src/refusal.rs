@@ -45,9 +45,13 @@ refusals! {
     AllZero = 4, "all 64 elements of the matrix are zero";
     NoSuchTurn = 5, "the turn number is above 120";
     Unfinished = 6, "the turn number is under 120, so the result is not finished";
-    BufferTooShort = 7, "the buffer has fewer than 2,049 bytes";
+    BufferTooShort = 7, "the buffer has fewer than 2,049 bytes for a result \
+                         or 257 bytes for a matrix";
     NotTriangular = 8, "R has a word under its diagonal that is not 0, \
                         or a negative one among its first 15 diagonal words";
+    NoneAdded = 9, "no snapshot has been added";
+    SumsOutOfRange = 10, "4,096 snapshots have been added already, the count is above that, \
+                          or a sum is beyond 2^31 times the count";
 }
 
 impl Refusal {

@@ -1,12 +1,14 @@
-//! The engine's five calls, with what they answer as the reference's replies.
+//! The engine's calls, with what they are handed and answer as the reference has it.
 //!
 //! What the engine only reads is lent as writable, too, so that a forbidden write would be seen.
 
 use hubqr::ffi;
 use reference::clamps::Clamps;
+use reference::covariance::Snapshot;
 use reference::replies::{FetchReply, LoadReply, ReadReply, RunReply, WholeReply};
 
-// SAFETY of all calls: the pointers and lengths come from live slices that do not overlap.
+// SAFETY of all calls: the pointers and lengths come from live slices that do not overlap; what is
+// handed over by value may be anything.
 
 pub fn load(record: &mut [u8], area: &mut [i32]) -> LoadReply {
     let reply = unsafe {
@@ -84,4 +86,21 @@ pub fn whole(record: &mut [u8], area: &mut [i32], buffer: &mut [u8]) -> WholeRep
             q: reply.clamps_q,
         },
     }
+}
+
+pub fn sums_none() -> ffi::Sums {
+    unsafe { ffi::hubqr_sums_none() }
+}
+
+pub fn add_snapshot(snapshot: &Snapshot, sums: ffi::Sums) -> (u8, ffi::Sums) {
+    let samples = snapshot.map(|sample| ffi::Sample {
+        re: sample.re,
+        im: sample.im,
+    });
+    let reply = unsafe { ffi::hubqr_add_snapshot(ffi::Snapshot { samples }, sums) };
+    (reply.number, reply.sums)
+}
+
+pub fn write_matrix(sums: ffi::Sums, buffer: &mut [u8]) -> u8 {
+    unsafe { ffi::hubqr_write_matrix(sums, buffer.as_mut_ptr(), buffer.len()) }
 }

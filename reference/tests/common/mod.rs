@@ -5,6 +5,7 @@
 #![allow(dead_code)]
 
 mod engine;
+pub mod sums;
 mod twin;
 pub mod words;
 
@@ -38,7 +39,7 @@ impl Case {
         }
     }
 
-    /// A case that is about the words of an area and no record.
+    /// A case that is about words and no record.
     pub fn of_words(test: &'static str, seed: u64, number: u64) -> Self {
         Case {
             test,

@@ -10,7 +10,7 @@ use lib.IntN.{ℤ, pos}
 use lib.ListN.{length, drop, set, replicate, length-set, drop-of-length-le}
 use denote.Ref.{now}
 use Rattle.lists.specs.Lists.{tabulate, filled}
-use Rattle.lists.proofs.Tabulate.{length-tabulate}
+use Rattle.lists.proofs.Tabulate.{length-tabulate, filled-all}
 use Rattle.result_record.specs.ResultRecord.{resultByte}
 use Rattle.workspace.specs.Workspace.{R, Q}
 use Rattle.workspace.specs.Loading.{loadedWords}
@@ -50,20 +50,16 @@ module _ (rec out : List ℕ) (size : length out ≡ 2049) where
   response-is = ap answered (same-number rec out size)
 
   -- accepted: the buffer is filled whole
-  filled-whole : (f : ℕ → ℕ) (b : List ℕ) → length b ≡ 2049 → filled 2049 f b ≡ tabulate 2049 f
-  unfolding filled
-  filled-whole f b e = rw (drop-of-length-le b {i = 2049} (omega arith)) (append-nil (tabulate 2049 f))
-
   accepted : (number : ℕ) (o : WholeOutcome) → o ≡ wholeBy number rec zeros out → o .reply .number ≡ 0
       → (2049 ≡ length (answered number)) × (o .buffer ≡ answered number ++ drop 2049 out)
   unfolding wholeBy wholeDone
   accepted zero o e a =
       let words : List ℤ = rotationsMade 0 120 (loadedWords rec zeros) in
       let f : ℕ → ℕ = resultByte (R words) (Q words) in
-      let b : filled 2049 f blank ≡ tabulate 2049 f = filled-whole f blank refl in
+      let b : filled 2049 f blank ≡ tabulate 2049 f = filled-all 2049 f blank (omega arith) in
       let n : length (filled 2049 f blank) ≡ 2049 = ap length b ∙ length-tabulate 2049 f in
       let d : drop 2049 out ≡ [] = drop-of-length-le out {i = 2049} (omega arith) in
-      (sym n, ap (λ (x : WholeOutcome). x .buffer) e ∙ filled-whole f out size ∙ sym (rw (d, append-nil) b))
+      (sym n, ap (λ (x : WholeOutcome). x .buffer) e ∙ filled-all 2049 f out (omega arith) ∙ sym (rw (d, append-nil) b))
   accepted (suc n) o e a = absurd (omega (arith, a, ap (λ (x : WholeOutcome). x .reply .number) e))
 
   refused : (number : ℕ) (o : WholeOutcome) → o ≡ wholeBy number rec zeros out → (o .reply .number ≡ 0 → ⊥)

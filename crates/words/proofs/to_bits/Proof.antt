@@ -22,7 +22,7 @@ cast-result c = subst (SFits w64) (sym (read (c .before))) (sfits-widen tt (c .b
 sum : (c : tie.Then1) → toZ w64 (ofZ w64 (toZ w32 (ofZ w32 (c .before .args .w)))) +ℤ pos 4294967296 ≡ pos (ofZ w32 (c .before .args .w))
 sum c =
     ap (λ (z : ℤ). z +ℤ pos 4294967296) (toZ-ofZ (cast-result c) ∙ read (c .before))
-    ∙ lift (c .before .args .w) (c .before .fits .w) (subst (λ (z : ℤ). ltZ z (pos 0) ≡ true) (read (c .before)) (c .if1 .taken))
+    ∙ lift w32 (c .before .args .w) (c .before .fits .w) (subst (λ (z : ℤ). ltZ z (pos 0) ≡ true) (read (c .before)) (c .if1 .taken))
 
 add-result : tie.Need-add-result
 add-result c = subst (SFits w64) (sym (sum c)) (omega (arith, fits-ofZ (c .before .fits .w)))
@@ -34,7 +34,7 @@ cast-result-2 c =
 same : (c : tie.Else1) → toZ w32 (ofZ w32 (c .before .args .w)) ≡ pos (ofZ w32 (c .before .args .w))
 same c =
     read (c .before)
-    ∙ plain (c .before .args .w) (subst (λ (z : ℤ). ltZ z (pos 0) ≡ false) (read (c .before)) (c .if1 .left))
+    ∙ plain w32 (c .before .args .w) (subst (λ (z : ℤ). ltZ z (pos 0) ≡ false) (read (c .before)) (c .if1 .left))
 
 cast-result-3 : tie.Need-cast-result-3
 cast-result-3 c =

@@ -1,5 +1,6 @@
 //! The crate against the archive, as a host program calls it.
 mod accepted;
+mod covariance;
 mod lent;
 mod refusal;
 mod refused;

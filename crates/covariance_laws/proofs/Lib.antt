@@ -1,0 +1,7 @@
+-- Their proofs; a theorem's proof stands in the file of the same name.
+pub mod Terms
+pub mod SumsAfter
+pub mod Accumulated
+pub mod WrittenMatrix
+pub mod Hermitian
+pub mod Possible
