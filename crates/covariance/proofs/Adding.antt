@@ -17,16 +17,16 @@ answer : ℕ → List ℤ → AddReply
 answer count words = record { number = 0; sums = record { count = count; words = words } }
 
 module _ (snapshot : List Sample) (s : Sums) where
-  pub full : 4096 ≤ s .count → record { number = 10; sums = s } ≡ addOf snapshot s
+  pub add-full : 4096 ≤ s .count → record { number = 10; sums = s } ≡ addOf snapshot s
   unfolding addOf addRefusal addBy
-  full h = simp (le-leb 4096 (s .count) h)
+  add-full h = simp (le-leb 4096 (s .count) h)
 
   module _ (room : s .count < 4096) where
-    pub beyond : wordsInRange (s .count) (s .words) ≡ false → record { number = 10; sums = s } ≡ addOf snapshot s
+    pub add-beyond : wordsInRange (s .count) (s .words) ≡ false → record { number = 10; sums = s } ≡ addOf snapshot s
     unfolding addOf addRefusal addBy sumsTest
-    beyond h = let few : s .count ≤ 4096 = omega arith in simp (lt-leb 4096 (s .count) room, le-ltb 4096 (s .count) few, h)
+    add-beyond h = let few : s .count ≤ 4096 = omega arith in simp (lt-leb 4096 (s .count) room, le-ltb 4096 (s .count) few, h)
 
-    pub added : (t : Sums) → wordsInRange (s .count) (s .words) ≡ true → t .count ≡ s .count + 1 → t .words ≡ tabulate 128 (addedWord snapshot (s .words))
+    pub add-done : (t : Sums) → wordsInRange (s .count) (s .words) ≡ true → t .count ≡ s .count + 1 → t .words ≡ tabulate 128 (addedWord snapshot (s .words))
         → record { number = 0; sums = t } ≡ addOf snapshot s
     unfolding addOf addRefusal addBy sumsTest answer
-    added t h c e = let few : s .count ≤ 4096 = omega arith in simp (lt-leb 4096 (s .count) room, le-ltb 4096 (s .count) few, h) (ap₂ answer c e)
+    add-done t h c e = let few : s .count ≤ 4096 = omega arith in simp (lt-leb 4096 (s .count) room, le-ltb 4096 (s .count) few, h) (ap₂ answer c e)

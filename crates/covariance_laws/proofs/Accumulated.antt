@@ -15,10 +15,11 @@ use Rattle.covariance.specs.declared.add.AddReply.{AddReply}
 use Rattle.covariance.specs.Sums.{sumsNone, sumAt}
 use Rattle.covariance.specs.AddSnapshot.{addBy, addOf}
 use Rattle.covariance.specs.WriteMatrix.{writeRefusal, writeOf}
+use Rattle.covariance.proofs.Adding.{add-full}
 use Rattle.covariance.proofs.Accepted.{sums-pass, write-by-number}
 use Rattle.covariance_laws.specs.Snapshots.{Parts16, termAt, sumsAfter}
 use Rattle.covariance_laws.specs.Accumulated.{addedOf, AllAccumulated}
-use Rattle.covariance_laws.proofs.SumsAfter.{Fair, none-fair, taken, full, After, after}
+use Rattle.covariance_laws.proofs.SumsAfter.{Fair, none-fair, add-taken, After, after}
 
 module _ (l : List (List Sample)) (short : Parts16 l) where
   final : After sumsNone l
@@ -47,8 +48,8 @@ module _ (l : List (List Sample)) (short : Parts16 l) where
   more x = either (decLt (length l) 4096)
     where
       either : Dec (length l < 4096) → addOf x (sumsAfter l) .number ≡ failsIf (leb 4096 (length l)) 10
-      either (yes room) = ap (λ (r : AddReply). r .number) (taken x (sumsAfter l) fair-after (omega (arith, counted))) ∙ sym (rw (lt-leb 4096 (length l) room))
-      either (no d) = ap (λ (r : AddReply). r .number) (full x (sumsAfter l) fair-after (omega (arith, counted))) ∙ sym (rw (le-leb 4096 (length l) (omega arith)))
+      either (yes room) = ap (λ (r : AddReply). r .number) (add-taken x (sumsAfter l) fair-after (omega (arith, counted))) ∙ sym (rw (lt-leb 4096 (length l) room))
+      either (no d) = ap (λ (r : AddReply). r .number) (sym (add-full x (sumsAfter l) (omega (arith, counted)))) ∙ sym (rw (le-leb 4096 (length l) (omega arith)))
 
   write-number : (buffer : List ℕ) → writeOf (sumsAfter l) buffer .number ≡ first (failsIf (eqb (length l) 0) 9) (bufferTest 257 buffer)
   unfolding writeOf writeRefusal

@@ -5,7 +5,6 @@ use Prim.Native.Nat.{ℕ, suc, _+_, _*_, _-_, _/_, _%_, _≤_, _<_, min}
 use native.Mathlib.Nat.{le-trans}
 use native.Mathlib.Decide.{decLt}
 use native.Mathlib.Omega.{arith}
-use borrow.Author.Tests.{le-leb}
 use lib.IntN.{ℤ, pos, _+ℤ_, +ℤ-assoc, +ℤ-idr}
 use lib.ListN.{length, getD-replicate}
 use Rattle.integers.specs.Sum.{sum}
@@ -18,7 +17,8 @@ use Rattle.covariance.specs.declared.Sample.{Sample}
 use Rattle.covariance.specs.declared.Sums.{Sums}
 use Rattle.covariance.specs.declared.add.AddReply.{AddReply}
 use Rattle.covariance.specs.Sums.{productPart, sampleOf, sumsNone, sumAt, addedWord}
-use Rattle.covariance.specs.AddSnapshot.{addRefusal, addBy, addOf}
+use Rattle.covariance.specs.AddSnapshot.{addBy, addOf}
+use Rattle.covariance.proofs.Adding.{add-full}
 use Rattle.covariance.proofs.Accepted.{Near, add-passes}
 use Rattle.covariance_laws.specs.Snapshots.{Parts16, termAt}
 use Rattle.covariance_laws.proofs.Terms.{Sample16, product-near, element-added}
@@ -38,14 +38,9 @@ none-fair = record { few = omega arith; near = λ n l. rw (getD-replicate 128 n 
 
 module _ (x : List Sample) (s : Sums) (fair : Fair s) where
   -- with room it is added
-  pub taken : s .count < 4096 → addOf x s ≡ addBy 0 x s
+  pub add-taken : s .count < 4096 → addOf x s ≡ addBy 0 x s
   unfolding addOf
-  taken room = rw (add-passes s room (fair .near))
-
-  -- without it the sums stay
-  pub full : 4096 ≤ s .count → addOf x s ≡ record { number = 10; sums = s }
-  unfolding addOf addRefusal addBy
-  full h = simp (le-leb 4096 (s .count) h)
+  add-taken room = rw (add-passes s room (fair .near))
 
   added-fair : ((i : ℕ) → Sample16 (sampleOf x i)) → s .count < 4096 → Fair (addBy 0 x s .sums)
   unfolding addBy addedWord
@@ -74,7 +69,7 @@ module _ (x : List Sample) (s : Sums) (l : List (List Sample)) (fair : Fair s) w
   grown : s .count < 4096 → After (addBy 0 x s .sums) l → After s (x ∷ l)
   unfolding afterAll addBy
   grown room a =
-      let e : afterAll step s (x ∷ l) ≡ afterAll step (addBy 0 x s .sums) l = ap (λ (r : AddReply). afterAll step (r .sums) l) (taken x s fair room) in
+      let e : afterAll step s (x ∷ l) ≡ afterAll step (addBy 0 x s .sums) l = ap (λ (r : AddReply). afterAll step (r .sums) l) (add-taken x s fair room) in
       let m : min (suc (length l)) (4096 - s .count) ≡ suc (min (length l) (4096 - (s .count + 1))) = omega arith in
       record {
         count = ap (λ (u : Sums). u .count) e ∙ a .count ∙ omega arith;
@@ -94,7 +89,7 @@ module _ (x : List Sample) (s : Sums) (l : List (List Sample)) (fair : Fair s) w
   stuck : 4096 ≤ s .count → After s l → After s (x ∷ l)
   unfolding afterAll
   stuck h a =
-      let e : afterAll step s (x ∷ l) ≡ afterAll step s l = ap (λ (r : AddReply). afterAll step (r .sums) l) (full x s fair h) in
+      let e : afterAll step s (x ∷ l) ≡ afterAll step s l = ap (λ (r : AddReply). afterAll step (r .sums) l) (sym (add-full x s h)) in
       let m : min (length l) (4096 - s .count) ≡ 0 = omega arith in
       let k : min (suc (length l)) (4096 - s .count) ≡ 0 = omega arith in
       record {

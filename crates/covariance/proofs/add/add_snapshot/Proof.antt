@@ -17,7 +17,7 @@ use Rattle.lists.proofs.Filling.{Filling, fill-none, fill-two, fill-done}
 use Rattle.lists.proofs.Passing.{Passed, pass-none, pass-more, pass-done, pass-fails}
 use Rattle.lists.proofs.Tabulate.{filled-all}
 use Rattle.covariance.specs.Sums.{sumAt, inRange, wordsInRange, addedWord}
-use Rattle.covariance.proofs.Adding.{full, beyond, added}
+use Rattle.covariance.proofs.Adding.{add-full, add-beyond, add-done}
 use Rattle.covariance.proofs.Elements.{added-part}
 use Rattle.covariance.proofs.Machine.{plus-fits, plus-is}
 use Rattle.covariance.proofs.add.add_snapshot.Statement.{statement}
@@ -84,7 +84,7 @@ refused-requires : tie.Need-refused-requires Inv-loop μ-loop
 refused-requires c κs = tt
 
 returns : tie.Need-returns Inv-loop μ-loop
-returns c = c .refused .ensures ∙ full _ _ (c .before .if1 .taken)
+returns c = c .refused .ensures ∙ add-full _ _ (c .before .if1 .taken)
 
 add-next : tie.Need-add-next Inv-loop μ-loop
 add-next c = omega arith
@@ -122,7 +122,7 @@ returns-2 c =
     let t = c .before in
     let i = t .before .before .before .before in
     let l = i .before in
-    c .refused2 .ensures ∙ beyond _ _ (l .before .if1 .left) (sym (pass-fails (l .loop .inv .1 .1 .0) (omega arith) (sym (re-tested (t .before)) ∙ not-true _ (t .if2 .taken))))
+    c .refused2 .ensures ∙ add-beyond _ _ (l .before .if1 .left) (sym (pass-fails (l .loop .inv .1 .1 .0) (omega arith) (sym (re-tested (t .before)) ∙ not-true _ (t .if2 .taken))))
 
 in-range-requires-2 : tie.Need-in-range-requires-2 Inv-loop μ-loop
 in-range-requires-2 c κs = omega arith
@@ -136,7 +136,7 @@ returns-3 c =
     let t = c .before in
     let e = t .before .before in
     let l = e .before .before .before .before .before in
-    c .refused3 .ensures ∙ beyond _ _ (l .before .if1 .left) (sym (pass-fails (first-in e) (omega arith) (sym (im-tested (t .before)) ∙ not-true _ (t .if3 .taken))))
+    c .refused3 .ensures ∙ add-beyond _ _ (l .before .if1 .left) (sym (pass-fails (first-in e) (omega arith) (sym (im-tested (t .before)) ∙ not-true _ (t .if3 .taken))))
 
 mul-a : tie.Need-mul-a Inv-loop μ-loop
 mul-a c = omega arith
@@ -210,7 +210,7 @@ unfolding wordsInRange
 returns-4 c =
     let l = c .before in
     let i = l .loop .inv in
-    added _ _ (l .before .if1 .left) _ (sym (pass-done (i .1 .1 .0) (omega arith))) (i .0) (fill-done (i .1 .1 .1) (omega arith) ∙ filled-all 128 _ _ (omega (arith, i .1 .0)))
+    add-done _ _ (l .before .if1 .left) _ (sym (pass-done (i .1 .1 .0) (omega arith))) (i .0) (fill-done (i .1 .1 .1) (omega arith) ∙ filled-all 128 _ _ (omega (arith, i .1 .0)))
 
 pub add-snapshot-spec : {M : Type 1} → statement M
 add-snapshot-spec =
