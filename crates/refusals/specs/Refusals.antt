@@ -1,5 +1,6 @@
--- Document 01, the table of numbers under "Calls and the order of tests", and the new numbers of document 02. Each test of a call yields its number where it fails and 0 where it passes, and
--- `first` of the tests, in the sequence listed, is the number of the first that fails, or 0 where none does. Assumes nothing.
+-- Document 01, the table of numbers under "Calls and the order of tests", and the new numbers of document 02. Each test of a call yields its number where
+-- it fails and 0 where it passes, and `first` of the tests, in the sequence listed, is the number of the first that fails, or 0 where none does. Assumes
+-- nothing.
 use Prim.Native.Nat.{ℕ, zero, suc}
 use mathlib.Core.Bool.{Bool, cond}
 use mathlib.Core.List.{List, [], _∷_}
