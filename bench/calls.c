@@ -24,7 +24,7 @@ static int32_t entry(const uint8_t *bytes)
     return (int16_t)(bytes[0] << 8 | bytes[1]) * INPUT_SCALE;
 }
 
-/* Fills the area from a matrix record and answers the heard byte. */
+/* Fills the area from a matrix record and answers the heard byte. Its bit k goes by the real part of element (k, k) alone. */
 uint8_t NAME(load)(const uint8_t *record, int32_t *area)
 {
     unsigned heard = 0;
@@ -39,8 +39,8 @@ uint8_t NAME(load)(const uint8_t *record, int32_t *area)
             above[j + 8] = -im;
             below[j] = im;
             below[j + 8] = re;
-            heard |= (unsigned)((re | im) != 0) << j;
         }
+        heard |= (unsigned)(above[i] > HEARD_ABOVE * INPUT_SCALE) << i;
     }
     for (int i = 0; i < ROWS; i++) {
         for (int j = 0; j < 16; j++) {

@@ -20,11 +20,25 @@ static void draw(void *bytes, size_t count)
     }
 }
 
-/* A matrix record with any parts. */
+/* Whether an antenna is heard in a matrix record. */
+static int any_heard(const uint8_t *record)
+{
+    for (int k = 0; k < HUBQR_ANTENNAS; k++) {
+        const uint8_t *diagonal = record + 1 + 4 * (HUBQR_ANTENNAS * k + k);
+        if ((int16_t)(diagonal[0] << 8 | diagonal[1]) > HUBQR_HEARD_ABOVE) {
+            return 1;
+        }
+    }
+    return 0;
+}
+
+/* A matrix record with any parts. An antenna is heard in it, so that Load and Whole accept it. */
 static void draw_record(uint8_t *record)
 {
     record[0] = HUBQR_KIND_MATRIX;
-    draw(record + 1, HUBQR_MATRIX_RECORD_BYTES - 1);
+    do {
+        draw(record + 1, HUBQR_MATRIX_RECORD_BYTES - 1);
+    } while (!any_heard(record));
 }
 
 static int in_parts(const uint8_t *record)

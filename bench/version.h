@@ -10,6 +10,9 @@
 enum { ROWS = 16, R_COLUMNS = 16, COLUMNS = 32, STEPS = 28, TURNS = 120 };
 enum { INPUT_SCALE = 1 << 13, ONE = 1 << 30, GAIN = 652032874 };
 
+/* What the real part of an antenna's diagonal element has to be above for the antenna to count as heard. */
+enum { HEARD_ABOVE = 16 };
+
 /* Clamps by side: of the columns that hold R, and of those that hold Q. */
 struct clamps {
     uint32_t r;

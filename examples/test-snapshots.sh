@@ -75,11 +75,16 @@ refuses() {
 check 0 'snapshots added: 64'
 check 0 'heard antennas: 0 1 2 3 4 5 6 7' $hall
 records $hall
-printf '# antennas 2 and 5\r\n \t\r\n0 0 0 0 +16384 -00 0 0\t0 0  0 -16384 0 0 0 0' >"$scratch/one.txt"
+printf '# antennas 2 and 5, and 3 just too quiet\r\n \t\r\n0 0 0 0 +16384 -00 1055 0\t0 0  0 -16384 0 0 0 0' >"$scratch/one.txt"
 check 0 'snapshots added: 1' "$scratch/one.txt"
-check 0 'diagonal: 0 0 4096 0 0 4096 0 0' "$scratch/one.txt"
+check 0 'diagonal: 0 0 4096 16 0 4096 0 0' "$scratch/one.txt"
 check 0 'heard antennas: 2 5' "$scratch/one.txt"
 records "$scratch/one.txt"
+# Twice the square of 747, divided by 65,536, is just above 17; that of 746, which is refused below, falls short of it.
+sixteen 747 >"$scratch/quiet.txt"
+check 0 'diagonal: 17 17 17 17 17 17 17 17' "$scratch/quiet.txt"
+check 0 'heard antennas: 0 1 2 3 4 5 6 7' "$scratch/quiet.txt"
+records "$scratch/quiet.txt"
 sixteen -32768 >"$scratch/lowest.txt"
 check 0 'diagonal: 32767 32767 32767 32767 32767 32767 32767 32767' "$scratch/lowest.txt"
 records "$scratch/lowest.txt"
@@ -93,8 +98,10 @@ refuses 'refused with number 10: 4,096 snapshots have been added already' "$scra
 refuses 'refused with number 9: no snapshot has been added' "$scratch/empty.txt"
 printf '\n# nothing\n' >"$scratch/remarks.txt"
 refuses 'refused with number 9: no snapshot has been added' "$scratch/remarks.txt"
-sixteen 0 >"$scratch/zeros.txt"
-refuses 'refused with number 4: ' "$scratch/zeros.txt"
+for unheard in 0 256 746; do
+    sixteen $unheard >"$scratch/unheard.txt"
+    refuses 'refused with number 4: no antenna was heard' "$scratch/unheard.txt"
+done
 refuses 'No such file' "$scratch/absent.txt"
 refuses 'Is a directory' "$scratch"
 refuses 'not a text of less than 1 MiB' examples/records/zeros.bin

@@ -34,7 +34,11 @@
  *                of R: `clamps_r` counts those of columns 0 to 15, which hold R, and `clamps_q` those of columns 16 to 31, which
  *                hold Q. Both are always 0 for an area that hubqr_load filled and that was worked in step; they are not 0 only
  *                for words that came from elsewhere.
- *   heard byte   Bit k (value 2^k) is set when column k of the complex matrix has an element other than zero.
+ *   heard byte   Bit k (value 2^k) is set when antenna k was heard: when the real part of element (k, k) of the complex matrix is
+ *                above HUBQR_HEARD_ABOVE, which is 16. Nothing else of the matrix counts, neither the imaginary parts nor the
+ *                elements off the diagonal, and a negative real part is not above 16. An antenna that was not heard is factored
+ *                like the others. A matrix in which none was heard is refused with number 4, whatever else it holds, so an
+ *                accepted call never answers 0 here.
  *
  * Replies and refusals
  *   A call answers by value: a struct, or the number alone where there is nothing else to answer. Each call tests what it is
@@ -75,6 +79,9 @@
 #define HUBQR_AREA_WORDS 512
 #define HUBQR_TURNS 120
 
+/* An antenna is heard when its real part on the diagonal is above this: a loose plug leaves a part of one or two. */
+#define HUBQR_HEARD_ABOVE 16
+
 /* The area's shape. */
 #define HUBQR_AREA_ROWS 16
 #define HUBQR_AREA_COLUMNS 32
@@ -90,7 +97,7 @@ extern "C" {
 /* What Load answers. */
 struct hubqr_load_reply {
     uint8_t number; /* HUBQR_ACCEPTED, or the refusal */
-    uint8_t heard;  /* the heard byte */
+    uint8_t heard;  /* the heard byte, which is not 0; refused: 0 */
     uint32_t turn;  /* the turn number to hand to the next call, which is 0 */
 };
 
@@ -141,7 +148,7 @@ struct hubqr_read_reply hubqr_read(const uint8_t *record, size_t record_len, int
 /* What Whole answers. */
 struct hubqr_whole_reply {
     uint8_t number;    /* HUBQR_ACCEPTED, or the refusal */
-    uint8_t heard;     /* the heard byte */
+    uint8_t heard;     /* the heard byte, which is not 0; refused: 0 */
     uint32_t clamps_r; /* the clamps counted in columns 0 to 15, which are 0 */
     uint32_t clamps_q; /* the clamps counted in columns 16 to 31, which are 0 */
 };

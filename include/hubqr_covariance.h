@@ -24,7 +24,13 @@
  *   there is nothing to clamp: -2^31 times the count, the lowest sum within the range, gives -32,768, which stands. With samples
  *   and elements both read as Q1.15, an element is half the mean of the products.
  *   For sums added up from none, element (j, i) is the conjugate of element (i, j).
- *   Quiet samples give elements of 0. A record that has no other is written all the same; hubqr_load and hubqr_whole refuse it.
+ *
+ * How loud an antenna has to be
+ *   hubqr_load and hubqr_whole count antenna k as heard when the real part of element (k, k) is above 16. For sums added up from
+ *   none, that is when the mean of x^2 + y^2 over its samples x + y i is at least 17 * 65,536 = 1,114,112, a root mean square
+ *   magnitude of 1,055.5 or about 30 dB under 32,768: an antenna is heard with samples of magnitude 1,056, and not with samples
+ *   of magnitude 1,055. A record in which all antennas are quieter is written all the same; hubqr_load and hubqr_whole refuse it
+ *   with number 4, HUBQR_NONE_HEARD.
  *
  * Keeping the sums
  *   The sums are 1,032 bytes of plain numbers, and the caller's own. They may be copied, kept anywhere and handed in later, to

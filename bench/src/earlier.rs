@@ -46,8 +46,8 @@ pub const ADDING: ByValue = ByValue {
     write: earlier_hubqr_write_matrix,
 };
 
-/// Says so where the earlier archive's replies may be others than those that are declared here. The
-/// patch is what versions of the same face differ in.
+/// Says so where the earlier archive's replies may be others than those that are declared here, or go
+/// by other rules, as the heard byte may. The patch is what versions of the same face differ in.
 pub fn check_face() -> Result<(), String> {
     // SAFETY: the call takes nothing.
     let earlier = unsafe { earlier_hubqr_version() };

@@ -8,7 +8,7 @@ use reference::records::write_matrix;
 
 use crate::contenders::{Area, Record};
 
-/// A matrix record with any parts.
+/// A matrix record with any parts. An antenna is heard in it, so that Load and Whole accept it.
 pub fn record(random: &mut Random) -> Record {
     write_matrix(&Kind::FullRange.matrix(random))
 }

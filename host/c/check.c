@@ -54,6 +54,26 @@ int guards_unchanged(void)
            memcmp(buffer + HUBQR_RESULT_RECORD_BYTES, buffer_before + HUBQR_RESULT_RECORD_BYTES, GUARDS) == 0;
 }
 
+/* An accepted call may write all but the guards. */
+static int rightly_changed(uint8_t number)
+{
+    return number == HUBQR_ACCEPTED ? guards_unchanged() : unchanged();
+}
+
+void check_heard(const char *what, const uint8_t record[HUBQR_MATRIX_RECORD_BYTES], uint8_t heard)
+{
+    uint8_t number = heard == 0 ? HUBQR_NONE_HEARD : HUBQR_ACCEPTED;
+    scribble();
+    remember();
+    struct hubqr_load_reply loaded = hubqr_load(record, HUBQR_MATRIX_RECORD_BYTES, area, AREA_LENT);
+    CHECK(what, loaded.number == number && loaded.heard == heard && loaded.turn == 0);
+    CHECK(what, rightly_changed(number));
+    struct hubqr_whole_reply factored = hubqr_whole(record, HUBQR_MATRIX_RECORD_BYTES, area, AREA_LENT, buffer, BUFFER_LENT);
+    CHECK(what, factored.number == number && factored.heard == heard);
+    CHECK(what, factored.clamps_r == 0 && factored.clamps_q == 0);
+    CHECK(what, rightly_changed(number));
+}
+
 void set_element(uint8_t *record, int row, int column, int16_t real, int16_t imaginary)
 {
     uint8_t *at = record + 1 + 4 * (8 * row + column);
@@ -61,6 +81,14 @@ void set_element(uint8_t *record, int row, int column, int16_t real, int16_t ima
     at[1] = (uint8_t)((uint16_t)real & 0xff);
     at[2] = (uint8_t)((uint16_t)imaginary >> 8);
     at[3] = (uint8_t)((uint16_t)imaginary & 0xff);
+}
+
+void make_equal(uint8_t record[HUBQR_MATRIX_RECORD_BYTES], int16_t part)
+{
+    record[0] = HUBQR_KIND_MATRIX;
+    for (int n = 0; n < 64; n++) {
+        set_element(record, n / 8, n % 8, part, part);
+    }
 }
 
 void make_matrix(uint8_t record[HUBQR_MATRIX_RECORD_BYTES])

@@ -25,13 +25,26 @@ int unchanged(void);
 int unchanged_from(size_t first);
 int guards_unchanged(void);
 
-/* A matrix record whose elements differ, with both ends of the 16-bit range among them, heard by all antennas. */
+/*
+ * A matrix record whose elements differ, with both ends of the 16-bit range among them. Antennas 1 to 6 are heard and two are
+ * not, which are worked like the others: on the diagonal, antenna 0 has the real part 1 and antenna 7 a negative one.
+ */
+enum { MATRIX_HEARD = 0x7e };
 void make_matrix(uint8_t record[HUBQR_MATRIX_RECORD_BYTES]);
+/* A matrix record with this number as each real and each imaginary part. */
+void make_equal(uint8_t record[HUBQR_MATRIX_RECORD_BYTES], int16_t part);
 /* Sets element (row, column) of a matrix record. */
 void set_element(uint8_t *record, int row, int column, int16_t real, int16_t imaginary);
 
+/*
+ * Load and Whole answer this heard byte for a matrix record. With 0, both refuse it with number 4 and change nothing; otherwise
+ * both accept it.
+ */
+void check_heard(const char *what, const uint8_t record[HUBQR_MATRIX_RECORD_BYTES], uint8_t heard);
+
 void test_face(void);
 void test_accepted(void);
+void test_heard(void);
 void test_refused(void);
 void test_covariance(void);
 

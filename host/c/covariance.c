@@ -328,15 +328,60 @@ static void test_record_goes_on(void)
     CHECK("Whole writes a result record", buffer[0] == HUBQR_KIND_RESULT);
 }
 
-/* Samples so quiet that all elements are 0 give a record, which Load refuses; one step louder, they give elements of 1. */
-static void test_quiet_samples(void)
+/* The record of sums is written whoever is heard in it, and Load and Whole answer this heard byte for it. */
+static void written_and_heard(const char *what, struct hubqr_sums sums, uint8_t heard)
 {
     uint8_t record[HUBQR_MATRIX_RECORD_BYTES];
-    for (int16_t level = 181; level <= 182; level++) {
-        struct hubqr_sums sums = added("quiet samples", hubqr_sums_none(), alike(level, (int16_t)-level));
-        CHECK("record of quiet samples", hubqr_write_matrix_at(&sums, record, sizeof record) == HUBQR_ACCEPTED);
-        struct hubqr_load_reply loaded = hubqr_load(record, sizeof record, area, AREA_LENT);
-        CHECK("Load of quiet samples", loaded.number == (level == 181 ? HUBQR_ALL_ZERO : HUBQR_ACCEPTED));
+    CHECK(what, hubqr_write_matrix_at(&sums, record, sizeof record) == HUBQR_ACCEPTED);
+    check_heard(what, record, heard);
+}
+
+/*
+ * Antenna k is heard when the mean of its squared magnitudes is at least 17 * 65,536 = 1,114,112, which is 256^2 + 1024^2.
+ * 1,114,100, which is 86^2 + 1052^2, is the largest sum of two squares below it.
+ */
+static const struct hubqr_sample just_heard = {256, -1024}, just_not = {-1052, 86};
+
+static void test_quiet_samples(void)
+{
+    struct hubqr_snapshot quiet = alike(just_not.re, just_not.im), loud = alike(just_heard.re, just_heard.im);
+    struct hubqr_sums none = hubqr_sums_none();
+    written_and_heard("silence", added("silence", none, alike(0, 0)), 0);
+    written_and_heard("quiet samples", added("quiet samples", none, quiet), 0);
+    written_and_heard("samples that are just heard", added("samples that are just heard", none, loud), 0xff);
+    written_and_heard("magnitude 1,055", added("magnitude 1,055", none, alike(0, 1055)), 0);
+    written_and_heard("magnitude 1,056", added("magnitude 1,056", none, alike(-1056, 0)), 0xff);
+    for (int k = 0; k < HUBQR_ANTENNAS; k++) {
+        struct hubqr_snapshot one = quiet;
+        one.samples[k] = just_heard;
+        written_and_heard("one that is just heard", added("one that is just heard", none, one), (uint8_t)(1 << k));
+    }
+}
+
+/* Of several snapshots the mean counts: a quiet one takes from what is just heard, and a louder one makes up for it. */
+static void test_quiet_on_average(void)
+{
+    struct hubqr_snapshot quiet = alike(just_not.re, just_not.im), loud = alike(just_heard.re, just_heard.im);
+    struct hubqr_sums sums = added("two snapshots", added("one snapshot", hubqr_sums_none(), loud), loud);
+    written_and_heard("two that are just heard", sums, 0xff);
+    sums = added("a quiet snapshot", sums, quiet);
+    written_and_heard("a quiet one after two", sums, 0);
+    sums = added("a loud snapshot", sums, alike(0, 1056));
+    written_and_heard("a louder one after these", sums, 0xff);
+}
+
+/* The edge to the unit, for a single sum on the diagonal. A sum that is negative or imaginary is not heard. */
+static void test_quiet_sums(void)
+{
+    static const uint32_t counts[] = {1, 3, HUBQR_SNAPSHOTS_MAX};
+    for (int n = 0; n < 3 * HUBQR_ANTENNAS; n++) {
+        int k = n % HUBQR_ANTENNAS;
+        uint32_t count = counts[n / HUBQR_ANTENNAS];
+        int64_t edge = (HUBQR_HEARD_ABOVE + 1) * INT64_C(65536) * count;
+        written_and_heard("a sum at the edge", with_sum(count, place(k, k, 0), edge), (uint8_t)(1 << k));
+        written_and_heard("a sum under the edge", with_sum(count, place(k, k, 0), edge - 1), 0);
+        written_and_heard("a negative sum", with_sum(count, place(k, k, 0), -edge), 0);
+        written_and_heard("an imaginary sum", with_sum(count, place(k, k, 1), edge), 0);
     }
 }
 
@@ -368,5 +413,7 @@ void test_covariance(void)
     test_parts();
     test_record_goes_on();
     test_quiet_samples();
+    test_quiet_on_average();
+    test_quiet_sums();
     test_exact_blocks();
 }

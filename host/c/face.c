@@ -45,6 +45,7 @@ PLACE(hubqr_add_reply, sums, 8);
 
 _Static_assert(HUBQR_VERSION_MINOR < 100 && HUBQR_VERSION_PATCH < 100, "two digits each in HUBQR_VERSION");
 _Static_assert(HUBQR_AREA_ROWS * HUBQR_AREA_COLUMNS == HUBQR_AREA_WORDS, "the area's shape");
+_Static_assert(HUBQR_HEARD_ABOVE == 16, "the real part that an antenna has to pass");
 _Static_assert(HUBQR_MATRIX_RECORD_BYTES == 1 + 64 * 4, "64 elements of four bytes behind the kind byte");
 _Static_assert(HUBQR_SUM_WORDS == 2 * HUBQR_ANTENNAS * HUBQR_ANTENNAS, "a real and an imaginary sum for each element");
 _Static_assert(HUBQR_MATRIX_RECORD_BYTES == 1 + 2 * HUBQR_SUM_WORDS, "a part of two bytes for each sum behind the kind byte");
@@ -61,7 +62,8 @@ static void test_words(void)
     const char *none = hubqr_refusal_words(255);
     CHECK("words of a number that is none", strcmp(none, "no refusal number") == 0);
     CHECK("words of 0", strcmp(hubqr_refusal_words(HUBQR_ACCEPTED), "accepted") == 0);
-    CHECK("words of 4", strcmp(hubqr_refusal_words(HUBQR_ALL_ZERO), "all 64 elements of the matrix are zero") == 0);
+    CHECK("words of 4", strcmp(hubqr_refusal_words(HUBQR_NONE_HEARD),
+                               "no antenna was heard: the real part of every diagonal element is 16 or less") == 0);
     for (int k = 0; k < REFUSALS; k++) {
         CHECK("refusals are numbered from 1 on", numbers[k] == k + 1);
         for (int other = 0; other < k; other++) {

@@ -5,6 +5,9 @@
 
 static uint8_t matrix[HUBQR_MATRIX_RECORD_BYTES + 1];
 static uint8_t zeros[HUBQR_MATRIX_RECORD_BYTES] = {HUBQR_KIND_MATRIX};
+/* What loose plugs leave, which is not zero and in which no antenna is heard; of the kind of a matrix, and of kind 03. */
+static uint8_t hum[HUBQR_MATRIX_RECORD_BYTES + 1];
+static uint8_t other_hum[HUBQR_MATRIX_RECORD_BYTES];
 static uint8_t result[HUBQR_RESULT_RECORD_BYTES + 1] = {HUBQR_KIND_RESULT};
 static uint8_t other_kind[HUBQR_RESULT_RECORD_BYTES] = {HUBQR_KIND_REFUSAL};
 /* Result records that break the rule of R: the first word is -1, or the first word of the last row is 1. */
@@ -80,7 +83,12 @@ static void test_load(void)
         {"Load into 511 words", matrix, 257, area, 511, NULL, 0, 0, HUBQR_AREA_TOO_SHORT},
         {"Load into a null area", matrix, 257, NULL, 0, NULL, 0, 0, HUBQR_AREA_TOO_SHORT},
         {"Load of zeros into 511 words", zeros, 257, area, 511, NULL, 0, 0, HUBQR_AREA_TOO_SHORT},
-        {"Load of zeros", zeros, 257, area, 512, NULL, 0, 0, HUBQR_ALL_ZERO},
+        {"Load of zeros", zeros, 257, area, 512, NULL, 0, 0, HUBQR_NONE_HEARD},
+        {"Load of a hum of kind 03", other_hum, 257, area, 512, NULL, 0, 0, HUBQR_WRONG_KIND},
+        {"Load of 256 bytes of a hum", hum, 256, area, 512, NULL, 0, 0, HUBQR_WRONG_LENGTH},
+        {"Load of 258 bytes of a hum", hum, 258, area, 512, NULL, 0, 0, HUBQR_WRONG_LENGTH},
+        {"Load of a hum into 511 words", hum, 257, area, 511, NULL, 0, 0, HUBQR_AREA_TOO_SHORT},
+        {"Load of a hum", hum, 257, area, 512, NULL, 0, 0, HUBQR_NONE_HEARD},
         {"Load of nothing into nothing", NULL, 0, NULL, 0, NULL, 0, 0, HUBQR_WRONG_KIND},
     };
     scribble();
@@ -166,7 +174,15 @@ static void test_whole(void)
         {"Whole into 2,048 bytes", matrix, 257, area, 512, buffer, 2048, 0, HUBQR_BUFFER_TOO_SHORT},
         {"Whole into a null buffer", matrix, 257, area, 512, NULL, 0, 0, HUBQR_BUFFER_TOO_SHORT},
         {"Whole of zeros into 2,048 bytes", zeros, 257, area, 512, buffer, 2048, 0, HUBQR_BUFFER_TOO_SHORT},
-        {"Whole of zeros", zeros, 257, area, 512, buffer, 2049, 0, HUBQR_ALL_ZERO},
+        {"Whole of zeros", zeros, 257, area, 512, buffer, 2049, 0, HUBQR_NONE_HEARD},
+        {"Whole of a hum of kind 03", other_hum, 257, area, 512, buffer, 2049, 0, HUBQR_WRONG_KIND},
+        {"Whole of 256 bytes of a hum", hum, 256, area, 512, buffer, 2049, 0, HUBQR_WRONG_LENGTH},
+        {"Whole of 258 bytes of a hum", hum, 258, area, 512, buffer, 2049, 0, HUBQR_WRONG_LENGTH},
+        {"Whole of a hum in 511 words", hum, 257, area, 511, buffer, 2049, 0, HUBQR_AREA_TOO_SHORT},
+        {"Whole of a hum in 511 words, 2,048 bytes", hum, 257, area, 511, buffer, 2048, 0, HUBQR_AREA_TOO_SHORT},
+        {"Whole of a hum into 2,048 bytes", hum, 257, area, 512, buffer, 2048, 0, HUBQR_BUFFER_TOO_SHORT},
+        {"Whole of a hum into a null buffer", hum, 257, area, 512, NULL, 0, 0, HUBQR_BUFFER_TOO_SHORT},
+        {"Whole of a hum", hum, 257, area, 512, buffer, 2049, 0, HUBQR_NONE_HEARD},
         {"Whole of nothing", NULL, 0, NULL, 0, NULL, 0, 0, HUBQR_WRONG_KIND},
     };
     scribble();
@@ -176,6 +192,9 @@ static void test_whole(void)
 void test_refused(void)
 {
     make_matrix(matrix);
+    make_equal(hum, 2);
+    make_equal(other_hum, 2);
+    other_hum[0] = HUBQR_KIND_REFUSAL;
     under_diagonal[1 + 4 * (16 * 15) + 3] = 1;
     test_load();
     test_run();

@@ -15,7 +15,7 @@ static std::array<uint8_t, HUBQR_RESULT_RECORD_BYTES> buffer;
 
 static bool accepted()
 {
-    record[4] = 1;
+    record[2] = HUBQR_HEARD_ABOVE + 1; // the real part of element (0, 0), which is enough for antenna 0 to be heard
     auto factored = hubqr_whole(record.data(), record.size(), area.data(), area.size(), buffer.data(), buffer.size());
     auto restored = hubqr_read(buffer.data(), buffer.size(), area.data(), area.size());
     auto ran = hubqr_run(restored.turn, 1, area.data(), area.size());
@@ -37,10 +37,13 @@ static bool refused()
 {
     auto loaded = hubqr_load(nullptr, 0, area.data(), area.size());
     auto fetched = hubqr_fetch(HUBQR_TURNS, area.data(), area.size(), buffer.data(), 0);
-    return loaded.number == HUBQR_WRONG_KIND && fetched == HUBQR_BUFFER_TOO_SHORT;
+    record[2] = HUBQR_HEARD_ABOVE;
+    auto unheard = hubqr_load(record.data(), record.size(), area.data(), area.size());
+    return loaded.number == HUBQR_WRONG_KIND && fetched == HUBQR_BUFFER_TOO_SHORT && unheard.number == HUBQR_NONE_HEARD;
 }
 
-// 1 + 2i times the conjugate of 3 + 4i is 11 + 2i; the samples are 256 times that.
+// 1 + 2i times the conjugate of 3 + 4i is 11 + 2i; the samples are 256 times that. The diagonal has 5 and 25, so that antenna 1
+// alone is heard.
 static bool covariance()
 {
     hubqr_snapshot snapshot{};
@@ -54,7 +57,7 @@ static bool covariance()
     bool written = hubqr_write_matrix_at(&sums, record.data(), record.size()) == HUBQR_ACCEPTED;
     auto loaded = hubqr_load(record.data(), record.size(), area.data(), area.size());
     return none && added.number == HUBQR_ACCEPTED && added.sums.count == 1 && by_pointer && same && written && record[6] == 11 &&
-           record[8] == 2 && loaded.number == HUBQR_ACCEPTED && loaded.heard == 3;
+           record[8] == 2 && loaded.number == HUBQR_ACCEPTED && loaded.heard == 2;
 }
 
 int main()

@@ -10,6 +10,7 @@ int main(void)
 {
     test_face();
     test_accepted();
+    test_heard();
     test_refused();
     test_covariance();
     printf("hubqr C face: %u checks passed\n", checks_passed());

@@ -119,8 +119,8 @@ fn lent_area(area: &mut [i32]) -> Result<&mut [i32; AREA_WORDS], Refusal> {
 
 /// Test 4.
 fn test_heard(matrix: &Matrix) -> Result<(), Refusal> {
-    if matrix.is_silent() {
-        Err(Refusal::Silent)
+    if matrix.none_heard() {
+        Err(Refusal::NoneHeard)
     } else {
         Ok(())
     }
@@ -153,6 +153,13 @@ fn test_triangle(work: &WorkArea) -> Result<(), Refusal> {
 mod tests {
     use super::*;
 
+    /// All parts -1, which no antenna is heard with.
+    const HUM: [u8; 257] = {
+        let mut record = [0xFF; 257];
+        record[0] = 1;
+        record
+    };
+
     fn matrix_record(fill: u8) -> [u8; 257] {
         let mut record = [fill; 257];
         record[0] = 1;
@@ -172,8 +179,10 @@ mod tests {
         assert_eq!(load(&[], short).number, 1);
         assert_eq!(load(&[2; 256], short).number, 1);
         assert_eq!(load(&[1; 256], short).number, 2);
-        assert_eq!(load(&matrix_record(0), short).number, 3);
-        assert_eq!(load(&matrix_record(0), full).number, 4);
+        for unheard in [matrix_record(0), HUM] {
+            assert_eq!(load(&unheard, short).number, 3);
+            assert_eq!(load(&unheard, full), LoadReply::from(Refusal::NoneHeard));
+        }
         let accepted = LoadReply {
             number: 0,
             turn: 0,
@@ -243,15 +252,27 @@ mod tests {
         let buffer = &mut [0; 2049][..];
         assert_eq!(whole(&[], short, &mut []).number, 1);
         assert_eq!(whole(&[1], short, &mut []).number, 2);
-        assert_eq!(whole(&matrix_record(0), short, &mut []).number, 3);
-        assert_eq!(whole(&matrix_record(0), full, &mut []).number, 7);
-        assert_eq!(whole(&matrix_record(0), full, buffer).number, 4);
+        for unheard in [matrix_record(0), HUM] {
+            assert_eq!(whole(&unheard, short, &mut []).number, 3);
+            assert_eq!(whole(&unheard, full, &mut []).number, 7);
+            let refused = WholeReply::from(Refusal::NoneHeard);
+            assert_eq!(whole(&unheard, full, buffer), refused);
+        }
         let accepted = WholeReply {
             number: 0,
             heard: 255,
             clamps: Clamps::NONE,
         };
         assert_eq!(whole(&matrix_record(1), full, buffer), accepted);
+    }
+
+    #[test]
+    fn a_matrix_that_no_antenna_is_heard_with_leaves_everything_untouched() {
+        let (mut area, mut buffer) = ([-7; 512], [0xEE; 2049]);
+        assert_eq!(load(&HUM, &mut area).number, 4);
+        assert_eq!(whole(&HUM, &mut area, &mut buffer).number, 4);
+        assert_eq!(area, [-7; 512]);
+        assert_eq!(buffer, [0xEE; 2049]);
     }
 
     #[test]

@@ -1,4 +1,9 @@
-//! Test matrices of different kinds. Load accepts every one of them.
+//! Test matrices of different kinds. Load accepts every one of them, but those of
+//! [`unheard_edges`].
+
+mod edges;
+
+pub use edges::{edges, unheard_edges};
 
 use crate::covariance::{add, Sums};
 use crate::matrix::{Complex, Matrix, ANTENNAS};
@@ -7,6 +12,9 @@ use crate::random::Random;
 const LOWEST: i16 = i16::MIN;
 const HIGHEST: i16 = i16::MAX;
 
+/// The least real part on the diagonal that an antenna is heard with.
+const QUIETEST: i16 = 17;
+
 /// What a random matrix is like.
 #[derive(Debug, Clone, Copy, PartialEq, Eq)]
 pub enum Kind {
@@ -14,9 +22,9 @@ pub enum Kind {
     FullRange,
     /// Every part at an end of the range.
     Extremes,
-    /// Every part from -2 to 2.
+    /// Every part from -2 to 2, but for one antenna that is just heard.
     Tiny,
-    /// One element other than zero.
+    /// One element other than zero: that of an antenna with itself.
     OneElement,
     /// The product of a column and a row.
     RankOne,
@@ -24,13 +32,13 @@ pub enum Kind {
     Covariance,
     /// Most elements zero.
     Sparse,
-    /// One column zero.
-    SilentAntenna,
+    /// The column of one antenna hums, or its row and column do.
+    Unplugged,
     /// Rows and columns of very different size.
     WideSpread,
-    /// Orthogonal columns of the greatest length.
+    /// Orthogonal columns, all of one length.
     Orthogonal,
-    /// No imaginary parts, or no real ones.
+    /// No imaginary parts, or no real ones but that of one antenna.
     OneSided,
     /// Zero under the diagonal.
     Triangular,
@@ -49,7 +57,7 @@ impl Kind {
         Kind::RankOne,
         Kind::Covariance,
         Kind::Sparse,
-        Kind::SilentAntenna,
+        Kind::Unplugged,
         Kind::WideSpread,
         Kind::Orthogonal,
         Kind::OneSided,
@@ -67,7 +75,7 @@ impl Kind {
             Kind::RankOne => "rank one",
             Kind::Covariance => "covariance",
             Kind::Sparse => "sparse",
-            Kind::SilentAntenna => "silent antenna",
+            Kind::Unplugged => "unplugged antenna",
             Kind::WideSpread => "wide spread",
             Kind::Orthogonal => "orthogonal",
             Kind::OneSided => "one-sided",
@@ -77,11 +85,12 @@ impl Kind {
         }
     }
 
-    /// A random matrix of this kind. A zero matrix is thrown away, since Load refuses it.
+    /// A random matrix of this kind. One that no antenna is heard with is thrown away, since Load
+    /// refuses it; no kind draws many of those.
     pub fn matrix(self, random: &mut Random) -> Matrix {
         loop {
             let matrix = self.draw(random);
-            if !matrix.is_silent() {
+            if !matrix.none_heard() {
                 return matrix;
             }
         }
@@ -91,12 +100,12 @@ impl Kind {
         match self {
             Kind::FullRange => Matrix::from_fn(|_, _| any(random)),
             Kind::Extremes => from_parts(|| random.choose(&[LOWEST, HIGHEST])),
-            Kind::Tiny => from_parts(|| random.between(-2, 2) as i16),
+            Kind::Tiny => tiny(random),
             Kind::OneElement => one_element(random),
             Kind::RankOne => rank_one(random),
             Kind::Covariance => covariance(random),
             Kind::Sparse => sparse(random),
-            Kind::SilentAntenna => silent_antenna(random),
+            Kind::Unplugged => unplugged(random),
             Kind::WideSpread => wide_spread(random),
             Kind::Orthogonal => orthogonal(random),
             Kind::OneSided => one_sided(random),
@@ -107,28 +116,6 @@ impl Kind {
     }
 }
 
-/// The matrices that no random draw may miss: every part at one end of the range, both ends in
-/// turn, and a single element 1 or i in each place.
-pub fn edges() -> Vec<Matrix> {
-    let ends = [LOWEST, -HIGHEST, -1, 1, HIGHEST];
-    let mut edges = Vec::new();
-    for re in ends {
-        for im in ends {
-            edges.push(Matrix::from_fn(|_, _| Complex::new(re, im)));
-            edges.push(Matrix::from_fn(|i, j| {
-                let (re, im) = if (i + j) % 2 == 0 { (re, im) } else { (im, re) };
-                Complex::new(re, im)
-            }));
-        }
-    }
-    for place in 0..ANTENNAS * ANTENNAS {
-        for element in [Complex::new(1, 0), Complex::new(0, 1)] {
-            edges.push(alone_at(place, element));
-        }
-    }
-    edges
-}
-
 fn any(random: &mut Random) -> Complex {
     Complex::new(random.part(), random.part())
 }
@@ -137,9 +124,9 @@ fn from_parts(mut part: impl FnMut() -> i16) -> Matrix {
     Matrix::from_fn(|_, _| Complex::new(part(), part()))
 }
 
-fn alone_at(place: usize, element: Complex) -> Matrix {
+fn alone_at(row: usize, column: usize, element: Complex) -> Matrix {
     Matrix::from_fn(|i, j| {
-        if ANTENNAS * i + j == place {
+        if (i, j) == (row, column) {
             element
         } else {
             Complex::ZERO
@@ -147,32 +134,43 @@ fn alone_at(place: usize, element: Complex) -> Matrix {
     })
 }
 
+/// A real part on the diagonal that an antenna is heard with.
+fn heard_part(random: &mut Random) -> i16 {
+    let any = random.between(QUIETEST.into(), HIGHEST.into()) as i16;
+    random.choose(&[QUIETEST, QUIETEST + 1, any, HIGHEST])
+}
+
+fn tiny(random: &mut Random) -> Matrix {
+    let (antenna, above) = (random.below(ANTENNAS), random.below(4) as i16);
+    from_parts(|| random.between(-2, 2) as i16).with_diagonal_at(antenna, QUIETEST + above)
+}
+
 fn one_element(random: &mut Random) -> Matrix {
-    let place = random.below(ANTENNAS * ANTENNAS);
-    let parts = [random.part(), random.part(), 0, 1, -1, LOWEST, HIGHEST];
-    alone_at(
-        place,
-        Complex::new(random.choose(&parts), random.choose(&parts)),
-    )
+    let antenna = random.below(ANTENNAS);
+    let imaginary = [random.part(), 0, 1, -1, LOWEST, HIGHEST];
+    let element = Complex::new(heard_part(random), random.choose(&imaginary));
+    alone_at(antenna, antenna, element)
 }
 
 fn rank_one(random: &mut Random) -> Matrix {
-    // Parts up to 127 keep every product within 16 bits, so the rank is exact.
-    let limit = random.choose(&[1, 10, 127]);
-    let mut vector = || -> [(i64, i64); ANTENNAS] {
+    // Parts of these sizes keep every product within 16 bits, so the rank is exact. The first pair
+    // is little above hum, and the last nearly fills the range.
+    let limits = random.choose(&[(1, 25), (10, 10), (127, 127)]);
+    let mut vector = |limit: i64| -> [(i64, i64); ANTENNAS] {
         std::array::from_fn(|_| (random.between(-limit, limit), random.between(-limit, limit)))
     };
-    let (column, row) = (vector(), vector());
+    let (column, row) = (vector(limits.0), vector(limits.1));
     Matrix::from_fn(|i, j| {
         let ((a, b), (c, d)) = (column[i], row[j]);
         Complex::new((a * c - b * d) as i16, (a * d + b * c) as i16)
     })
 }
 
-/// The matrix of a few snapshots, with antennas of different strength.
+/// The matrix of a few snapshots, with antennas of different strength. The weakest are about as loud
+/// as hum.
 fn covariance(random: &mut Random) -> Matrix {
     let count = random.between(1, 12);
-    let strength: [u32; ANTENNAS] = std::array::from_fn(|_| random.below(4) as u32);
+    let strength: [u32; ANTENNAS] = std::array::from_fn(|_| random.below(6) as u32);
     let mut sums = Sums::NONE;
     for _ in 0..count {
         let snapshot = strength.map(|shift| {
@@ -186,20 +184,24 @@ fn covariance(random: &mut Random) -> Matrix {
 
 fn sparse(random: &mut Random) -> Matrix {
     let rarity = random.choose(&[4, 8, 16]);
-    Matrix::from_fn(|_, _| {
+    let matrix = Matrix::from_fn(|_, _| {
         if random.one_in(rarity) {
             any(random)
         } else {
             Complex::ZERO
         }
-    })
+    });
+    matrix.with_diagonal_at(random.below(ANTENNAS), heard_part(random))
 }
 
-fn silent_antenna(random: &mut Random) -> Matrix {
-    let (silent, also_row) = (random.below(ANTENNAS), random.one_in(2));
+fn unplugged(random: &mut Random) -> Matrix {
+    let (antenna, row_too) = (random.below(ANTENNAS), random.one_in(2));
+    // A loose plug leaves parts of one or two, and a pulled one nothing.
+    let loudest = random.between(0, 2);
     Matrix::from_fn(|i, j| {
-        if j == silent || (also_row && i == silent) {
-            Complex::ZERO
+        if j == antenna || (row_too && i == antenna) {
+            let mut hum = || random.between(-loudest, loudest) as i16;
+            Complex::new(hum(), hum())
         } else {
             any(random)
         }
@@ -219,7 +221,7 @@ fn wide_spread(random: &mut Random) -> Matrix {
 
 /// A Walsh matrix with signs of its own for rows and columns, times one complex number.
 fn orthogonal(random: &mut Random) -> Matrix {
-    let size = random.choose(&[1, 181, 32766, HIGHEST]);
+    let size = random.choose(&[QUIETEST, 181, 32766, HIGHEST]);
     let (rows, columns, turned) = (random.byte(), random.byte(), random.one_in(2));
     Matrix::from_fn(|i, j| {
         let signs = (i & j).count_ones() as u8 ^ (rows >> i) ^ (columns >> j);
@@ -229,15 +231,12 @@ fn orthogonal(random: &mut Random) -> Matrix {
 }
 
 fn one_sided(random: &mut Random) -> Matrix {
-    let real = random.one_in(2);
-    Matrix::from_fn(|_, _| {
-        let part = random.part();
-        if real {
-            Complex::new(part, 0)
-        } else {
-            Complex::new(0, part)
-        }
-    })
+    if random.one_in(2) {
+        Matrix::from_fn(|_, _| Complex::new(random.part(), 0))
+    } else {
+        let imaginary = Matrix::from_fn(|_, _| Complex::new(0, random.part()));
+        imaginary.with_diagonal_at(random.below(ANTENNAS), heard_part(random))
+    }
 }
 
 fn triangular(random: &mut Random) -> Matrix {
@@ -274,14 +273,13 @@ mod tests {
     use super::*;
 
     #[test]
-    fn every_kind_gives_matrices_that_load_accepts() {
+    fn most_draws_of_every_kind_are_heard() {
         for kind in Kind::ALL {
-            for case in 0..50 {
-                let matrix = kind.matrix(&mut Random::for_case(5, case));
-                assert!(!matrix.is_silent(), "{}", kind.name());
-            }
+            let mut random = Random::new(5);
+            let heard = (0..1000).filter(|_| !kind.draw(&mut random).none_heard());
+            let heard = heard.count();
+            assert!(heard > 500, "{}: {heard} of 1000", kind.name());
         }
-        assert!(edges().iter().all(|matrix| !matrix.is_silent()));
     }
 
     #[test]
@@ -304,9 +302,27 @@ mod tests {
     }
 
     #[test]
-    fn a_silent_antenna_is_not_heard() {
-        let matrix = silent_antenna(&mut Random::new(3));
-        assert_eq!(matrix.heard().count_zeros(), 1);
+    fn an_unplugged_antenna_is_not_heard_and_leaves_the_others() {
+        let mut heard = 0;
+        for case in 0..100 {
+            let matrix = Kind::Unplugged.matrix(&mut Random::for_case(3, case));
+            assert_ne!(matrix.heard(), 255);
+            heard |= matrix.heard();
+        }
+        assert_eq!(heard, 255);
+    }
+
+    #[test]
+    fn tiny_matrices_have_one_antenna_that_is_just_heard() {
+        for case in 0..100 {
+            let matrix = Kind::Tiny.matrix(&mut Random::for_case(6, case));
+            assert!(matrix.heard().is_power_of_two());
+            let parts = matrix.to_real();
+            let large = parts.iter().flatten().filter(|part| part.abs() > 2);
+            // One element stands twice in the matrix made real.
+            let large: Vec<i32> = large.copied().collect();
+            assert!(large.len() == 2 && (17..=20).contains(&large[0]));
+        }
     }
 
     #[test]

@@ -15,16 +15,21 @@ const BEFORE: u8 = 7;
 
 pub fn listing() -> String {
     let mut host = Host::default();
-    for (sample, allowances) in [
-        (Sample::Full, &[119, 120, 121][..]),
-        (Sample::Single, &[120]),
-        (Sample::Lowest, &[120]),
+    host.write(Sample::Full.title());
+    sizes(&mut host, Sample::Full);
+    for allowance in [119, 120, 121] {
+        turns(&mut host, Sample::Full, allowance);
+    }
+    for sample in [
+        Sample::Single,
+        Sample::Lowest,
+        Sample::Hum,
+        Sample::Quietest,
+        Sample::OneQuietest,
+        Sample::Negative,
     ] {
         host.write(sample.title());
-        sizes(&mut host, sample);
-        for &allowance in allowances {
-            turns(&mut host, sample, allowance);
-        }
+        turns(&mut host, sample, 120);
     }
     host.written()
 }
@@ -41,10 +46,13 @@ fn sizes(host: &mut Host, sample: Sample) {
     }
 }
 
-/// An area of 512 words: a Run from turn 0 on, a Run of 1 from where it came to, and a Fetch.
+/// An area of 512 words. Where Load accepts the record: a Run from turn 0 on, a Run of 1 from where
+/// it came to, and a Fetch.
 fn turns(host: &mut Host, sample: Sample, allowance: u16) {
     let mut area = [BEFORE.into(); AREA_WORDS];
-    host.load(&sample.bytes()[..MATRIX_RECORD], &mut area);
+    if host.load(&sample.bytes()[..MATRIX_RECORD], &mut area) != 0 {
+        return;
+    }
     let turn = host.run(0, allowance, &mut area);
     let turn = host.run(turn, 1, &mut area);
     host.fetch(turn, &area, &mut [BEFORE; RESULT_RECORD]);

@@ -96,7 +96,6 @@ mod tests {
         record[1 + 4 * (8 * 2 + 5)..][..4].copy_from_slice(&[0x12, 0x34, 0xFF, 0xFE]);
         let matrix = parse_matrix(&record).unwrap();
         assert_eq!(matrix.element(2, 5), Complex::new(0x1234, -2));
-        assert_eq!(matrix.heard(), 1 << 5);
         assert_eq!(write_matrix(&matrix), record);
     }
 

@@ -12,8 +12,8 @@ pub enum Refusal {
     Length = 2,
     /// The area has under 512 words.
     Area = 3,
-    /// All 64 elements are zero.
-    Silent = 4,
+    /// No antenna is heard.
+    NoneHeard = 4,
     /// The turn number is above 120.
     Turn = 5,
     /// The turn number is under 120 at Fetch.

@@ -18,9 +18,11 @@ fn filled_with(element: Complex) -> [u8; 257] {
     write_matrix(&Matrix::from_fn(|_, _| element))
 }
 
-/// The area that Load makes of a matrix with the same element everywhere.
+/// The area that Load makes of a matrix with the same element everywhere, but for the last antenna,
+/// which is heard.
 fn loaded(element: Complex) -> WorkArea {
-    let record = filled_with(element);
+    let matrix = Matrix::from_fn(|_, _| element).with_diagonal_at(7, 17);
+    let record = write_matrix(&matrix);
     let mut both = both("loading", &record);
     assert_eq!(both.load(&record).number, 0);
     both.area()
@@ -73,7 +75,7 @@ fn m10_to_m12_leading_pairs() {
 
 #[test]
 fn records_of_257_and_258_bytes_and_areas_of_512_and_513_words() {
-    let record = filled_with(Complex::new(3, -4));
+    let record = filled_with(Complex::new(30, -4));
     let mut long = record.to_vec();
     long.push(0);
     for words in [512, 513] {
@@ -88,7 +90,7 @@ fn records_of_257_and_258_bytes_and_areas_of_512_and_513_words() {
 
 #[test]
 fn allowances_around_the_number_of_turns() {
-    let record = filled_with(Complex::new(-100, 77));
+    let record = filled_with(Complex::new(100, -77));
     for (allowance, count) in [(119, 119), (120, 120), (121, 120)] {
         let mut both = both("allowances", &record);
         both.load(&record);
@@ -104,21 +106,25 @@ fn allowances_around_the_number_of_turns() {
 }
 
 #[test]
-fn a_single_element_and_the_greatest_matrix() {
+fn a_single_element_1_and_all_parts_at_the_lowest_are_refused() {
     let single = Matrix::from_fn(|i, j| Complex::new(i16::from(i + j == 0), 0));
-    let greatest = Matrix::from_fn(|_, _| Complex::new(-32768, -32768));
-    for (matrix, heard) in [(single, 1), (greatest, 255)] {
-        let record = write_matrix(&matrix);
-        let reply = both("extremes", &record).whole(&record);
-        assert_eq!((reply.number, reply.heard), (0, heard));
-        assert_eq!(reply.clamps, Clamps::NONE);
+    let lowest = Matrix::from_fn(|_, _| Complex::new(-32768, -32768));
+    for matrix in [single, lowest] {
+        refused("not heard", &write_matrix(&matrix));
     }
 }
 
 #[test]
 fn the_hub_that_heard_nothing_is_refused() {
-    let record = filled_with(Complex::ZERO);
-    let mut both = both("silence", &record);
-    assert_eq!(both.load(&record).number, 4);
-    assert_eq!(both.whole(&record).number, 4);
+    refused("silence", &filled_with(Complex::ZERO));
+}
+
+/// Load and Whole answer number 4 and nothing else.
+fn refused(test: &'static str, record: &[u8]) {
+    let mut both = both(test, record);
+    let load = both.load(record);
+    assert_eq!((load.number, load.turn, load.heard), (4, 0, 0));
+    let whole = both.whole(record);
+    assert_eq!((whole.number, whole.heard), (4, 0));
+    assert_eq!(whole.clamps, Clamps::NONE);
 }

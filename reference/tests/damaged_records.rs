@@ -2,10 +2,11 @@
 
 mod common;
 
+use common::heard::{heard_in, Heard};
 use common::{Both, Case};
 use reference::calls;
 use reference::cases::Kind;
-use reference::matrix::REAL_SIZE;
+use reference::matrix::{Complex, Matrix, REAL_SIZE};
 use reference::random::Random;
 use reference::records::{parse_result, write_matrix, MATRIX_RECORD, RESULT_RECORD};
 
@@ -16,6 +17,12 @@ fn long_matrix_record(random: &mut Random) -> Vec<u8> {
     let mut record = write_matrix(&Kind::FullRange.matrix(random)).to_vec();
     record.resize_with(LONGEST, || random.byte());
     record
+}
+
+/// The record of a matrix with these real parts on the diagonal and anything elsewhere.
+fn record_with_diagonal(random: &mut Random, re: impl FnMut(usize) -> i16) -> [u8; MATRIX_RECORD] {
+    let any = Matrix::from_fn(|_, _| Complex::new(random.part(), random.part()));
+    write_matrix(&any.with_diagonal(re))
 }
 
 /// The result record of a random matrix.
@@ -48,12 +55,14 @@ fn matrix_records_of_every_length() {
     let valid = long_matrix_record(&mut random);
     let mut zeros = vec![0; LONGEST];
     zeros[0] = 1;
+    let mut unheard = record_with_diagonal(&mut random, |_| 16).to_vec();
+    unheard.resize_with(LONGEST, || random.byte());
     for length in 0..=LONGEST {
         let mut wrong = valid[..length].to_vec();
         if let Some(kind) = wrong.first_mut() {
             *kind = random.choose(&[0, 2, 3, 0x81, 0xFF]);
         }
-        for record in [&valid[..length], &wrong, &zeros[..length]] {
+        for record in [&valid, &wrong, &zeros, &unheard].map(|record| &record[..length]) {
             load_and_whole(&Case::new("lengths", 201, length as u64, record), record);
         }
     }
@@ -61,26 +70,59 @@ fn matrix_records_of_every_length() {
 
 #[test]
 fn every_kind_byte() {
-    let mut record = long_matrix_record(&mut Random::new(202));
+    let mut heard = long_matrix_record(&mut Random::new(202));
+    heard.truncate(MATRIX_RECORD);
+    let mut unheard = record_with_diagonal(&mut Random::new(211), |_| 16);
     let mut result = result_record(&mut Random::new(203));
     for kind in 0..=255 {
-        (record[0], result[0]) = (kind, kind);
-        let matrix = &record[..MATRIX_RECORD];
-        load_and_whole(&Case::new("kinds", 202, kind.into(), matrix), matrix);
+        (heard[0], unheard[0], result[0]) = (kind, kind, kind);
+        for matrix in [&heard[..], &unheard] {
+            load_and_whole(&Case::new("kinds", 202, kind.into(), matrix), matrix);
+        }
         Both::new(Case::new("kinds", 203, kind.into(), &result)).read(&result);
     }
 }
 
+/// Each of the bits from 32 to 16384 of a real part on the diagonal makes its antenna heard.
 #[test]
 fn matrix_records_with_one_bit() {
+    let mut seen = Heard::default();
     for bit in 0..8 * (MATRIX_RECORD - 1) {
         let mut record = [0; MATRIX_RECORD];
         record[0] = 1;
         record[1 + bit / 8] = 1 << (bit % 8);
         let case = Case::new("one bit", 0, bit as u64, &record);
-        let reply = Both::new(case).load(&record);
-        assert_eq!(reply.heard, 1 << (bit / 32 % 8));
+        seen.require(&case, &record, heard_in(&record));
     }
+    seen.print("Matrix records with one bit");
+    assert_eq!((seen.accepted, seen.refused), (8 * 10, 2048 - 8 * 10));
+}
+
+/// Flips each bit behind the kind byte, and counts the records that are accepted and refused then.
+fn flip_each_bit(seed: u64, re: impl FnMut(usize) -> i16) -> (u64, u64) {
+    let valid = record_with_diagonal(&mut Random::new(seed), re);
+    let mut seen = Heard::default();
+    for bit in 0..8 * (MATRIX_RECORD - 1) {
+        let mut record = valid;
+        record[1 + bit / 8] ^= 1 << (bit % 8);
+        let case = Case::new("flipped bit", seed, bit as u64, &record);
+        seen.require(&case, &record, heard_in(&record));
+    }
+    seen.print("Matrix records with a flipped bit");
+    (seen.accepted, seen.refused)
+}
+
+/// At every antenna 16 becomes more with each bit but its own and the sign.
+#[test]
+fn a_flipped_bit_makes_an_antenna_heard() {
+    assert_eq!(flip_each_bit(212, |_| 16), (8 * 14, 2048 - 8 * 14));
+}
+
+/// A single 17 becomes 16, 1 and negative with one bit each.
+#[test]
+fn a_flipped_bit_makes_the_only_antenna_unheard() {
+    let re = |k| if k == 6 { 17 } else { 16 };
+    assert_eq!(flip_each_bit(213, re), (2048 - 3, 3));
 }
 
 #[test]

@@ -11,7 +11,7 @@ use reference::accuracy::{Errors, BOUND};
 use reference::area::AREA_WORDS;
 use reference::cases::{edges, Kind};
 use reference::clamps::Clamps;
-use reference::matrix::Matrix;
+use reference::matrix::{Complex, Matrix};
 use reference::random::Random;
 use reference::records::{write_matrix, write_result, RESULT_RECORD};
 use reference::replies::RunReply;
@@ -19,8 +19,8 @@ use reference::schedule::TURNS;
 
 const TEST: &str = "matrices";
 const PER_KIND: u64 = 1000;
-/// All of them, as the documents say: 14 kinds, and 178 at the edges of the range.
-const MATRICES: u64 = 14_178;
+/// All of them, as the documents say: 14 kinds, and 188 at the edges of the range.
+const MATRICES: u64 = 14_188;
 
 /// What was seen of one kind of matrix.
 struct Tally {
@@ -70,6 +70,19 @@ fn worked_matrices_agree_and_are_accurate() {
         "kind", "matrices", "Q times R", "rows of Q", "columns of R"
     );
     tallies.iter().for_each(Tally::print);
+}
+
+/// So that bounds of 2^37 would be false, and so would a last diagonal word that is never negative.
+#[test]
+fn all_parts_32767_break_bounds_of_2_to_the_37() {
+    let matrix = Matrix::from_fn(|_, _| Complex::new(i16::MAX, i16::MAX));
+    let record = write_matrix(&matrix);
+    let mut both = Both::new(Case::new("the loudest matrix", 0, 0, &record));
+    both.lend(AREA_WORDS, RESULT_RECORD);
+    assert_eq!(both.whole(&record).number, 0);
+    let errors = check_result(&both, &matrix);
+    assert!(errors.product > 1 << 37 && errors.rows > 1 << 37 && errors.columns > 1 << 37);
+    assert!(both.area().r(15, 15) < 0);
 }
 
 /// Does the jobs on all cores and gives their outcomes in order.

@@ -9,7 +9,7 @@ use std::process::{Child, Command, Stdio};
 use std::thread;
 use std::time::Duration;
 
-use reference::cases::{edges, Kind};
+use reference::cases::{edges, unheard_edges, Kind};
 use reference::program::respond;
 use reference::random::Random;
 use reference::records::write_matrix;
@@ -98,6 +98,13 @@ fn a_matrix_of_zeros() {
     let mut record = [0; 257];
     record[0] = 1;
     assert_eq!(output_at_once(&record), [3, 4]);
+}
+
+#[test]
+fn matrices_that_no_antenna_is_heard_with() {
+    for matrix in unheard_edges() {
+        assert_eq!(compare(&write_matrix(&matrix)), [3, 4]);
+    }
 }
 
 #[test]

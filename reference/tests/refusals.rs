@@ -9,6 +9,7 @@ use std::collections::BTreeSet;
 use common::{Both, Case};
 use reference::area::AREA_WORDS;
 use reference::cases::Kind;
+use reference::matrix::{Complex, Matrix};
 use reference::random::Random;
 use reference::records::write_matrix;
 
@@ -47,13 +48,20 @@ impl Numbers {
     }
 }
 
-/// Good and bad matrix records: empty, too short, too long, of the wrong kind, silent.
+/// Records of matrices that no antenna is heard with: zeros, and hum on the diagonal with
+/// anything around it.
+fn unheard_records() -> [Vec<u8>; 2] {
+    let zeros = Matrix::from_fn(|_, _| Complex::ZERO);
+    let hum = Kind::FullRange.matrix(&mut Random::new(305));
+    [zeros, hum.with_diagonal(|_| 16)].map(|matrix| write_matrix(&matrix).to_vec())
+}
+
+/// Good and bad matrix records: empty, too short, too long, of the wrong kind, with no antenna heard.
 fn matrix_records() -> Vec<Vec<u8>> {
     let good = write_matrix(&Kind::FullRange.matrix(&mut Random::new(302))).to_vec();
-    let mut silent = vec![0; 257];
-    silent[0] = 1;
     let mut records = vec![vec![], vec![0], vec![1], vec![2], vec![1; 2049]];
-    for record in [good, silent] {
+    let [zeros, hum] = unheard_records();
+    for record in [good, zeros, hum] {
         let mut wrong_kind = record.clone();
         wrong_kind[0] = 2;
         let mut long = record.clone();
@@ -172,4 +180,33 @@ fn whole() {
         }
     }
     numbers.assert_seen(&[0, 1, 2, 3, 4, 7]);
+}
+
+/// Number 4 has the last test of both calls: where another one fails, too, that one decides.
+#[test]
+fn number_4_comes_after_all_others() {
+    let mut sets = 0;
+    for record in unheard_records() {
+        for set in 0..16 {
+            let [kind, length, area, buffer] = [0, 1, 2, 3].map(|test| set >> test & 1 == 1);
+            let mut record = record.clone();
+            if kind {
+                record[0] = 2;
+            }
+            record.truncate(if length { 256 } else { 257 });
+            let tests = [(1, kind), (2, length), (3, area), (7, buffer), (4, true)];
+            let first = |call: &[u8]| {
+                let mut tests = tests.into_iter();
+                tests.find(|(number, fails)| *fails && call.contains(number))
+            };
+            let mut both = Both::new(Case::new("number 4", 306, set, &record));
+            both.lend(512 - usize::from(area), 2049 - usize::from(buffer));
+            let load = both.load(&record).number;
+            assert_eq!(Some((load, true)), first(&[1, 2, 3, 4]));
+            let whole = both.whole(&record).number;
+            assert_eq!(Some((whole, true)), first(&[1, 2, 3, 7, 4]));
+            sets += 1;
+        }
+    }
+    assert_eq!(sets, 32);
 }

@@ -48,10 +48,42 @@ fn the_run_only_cases_are_there() {
         "Run of 1 from turn 119: number 0, next turn 120, turns made 1",
         "Run of 1 from turn 120: number 0, next turn 120, turns made 0",
         "Fetch at turn 120: number 0",
-        "A single element 1",
-        "All parts -32768",
+        "A single element 1\n  Load of 257 bytes into 512 words: number 4",
+        "All parts -32768\n  Load of 257 bytes into 512 words: number 4",
     ] {
         assert!(listing.contains(line), "the listing has no {line}");
+    }
+}
+
+/// What the listing has behind a title, up to the next one.
+fn lines_behind<'a>(listing: &'a str, title: &str) -> Vec<&'a str> {
+    let lines = listing.lines().skip_while(|line| *line != title).skip(1);
+    lines.take_while(|line| line.starts_with(' ')).collect()
+}
+
+#[test]
+fn a_diagonal_is_heard_above_16_and_refused_otherwise() {
+    let listing = listing();
+    let refused = lines_behind(&listing, "A single element 1");
+    for title in [
+        "All parts -32768",
+        "Diagonal real parts 16, all other parts 32767",
+        "Diagonal real parts -17, all other parts 32767",
+    ] {
+        // The same line, with the digest of an area that is as it was.
+        assert_eq!(lines_behind(&listing, title), refused, "{title}");
+    }
+    assert!(refused.len() == 1 && refused[0].contains("number 4, turn 0, heard 0;"));
+    for (title, heard) in [
+        ("Diagonal real parts 17, all other parts 32767", 255),
+        (
+            "Diagonal real parts 16 but antenna 5's 17, all other parts 32767",
+            32,
+        ),
+    ] {
+        let lines = lines_behind(&listing, title);
+        let accepted = format!("number 0, turn 0, heard {heard};");
+        assert!(lines.len() == 4 && lines[0].contains(&accepted), "{title}");
     }
 }
 

@@ -7,11 +7,10 @@ use native.Mathlib.Omega.{arith}
 use lib.Dec.{lit<, lit≤}
 use lib.IntN.{pos}
 use lib.ListN.{length, getD, replicate}
-use Rattle.lists.specs.Lists.{allBelow}
 use Rattle.lists.specs.Histories.{afterAll}
 use Rattle.lists.proofs.Histories.{Along, each-of, Idle, idle-after}
 use Rattle.refusals.specs.Refusals.{headerTest}
-use Rattle.matrix_record.specs.MatrixRecord.{partOf, zeroElement, allZero}
+use Rattle.matrix_record.specs.MatrixRecord.{partOf, antennaHeard, heardBelow}
 use Rattle.workspace.specs.Rotations.{rotationsMade}
 use Rattle.engine.specs.Load.{loadRefusal}
 use Rattle.engine.specs.Run.{RunOutcome, runMade, runBy, runOf}
@@ -139,7 +138,7 @@ stray-refused s = (
 pub mixed : (l : Load) (buffer : List ℕ) → 2049 ≤ length buffer → Possible l stray stray stray buffer
 mixed l buffer space = possible l stray stray stray buffer (stray-refused (start l)) (stray-refused (ended l)) (stray-refused (ended l)) space
 
--- ---- a record is accepted: a single element 1
+-- ---- a record is accepted: the first antenna is heard, by 17, and all else is 0
 
 zeros : (n k : ℕ) → _≡_ {A = ℕ} (getD (replicate n 0) k 0) 0
 zeros zero k = refl
@@ -147,10 +146,10 @@ zeros (suc n) zero = refl
 zeros (suc n) (suc k) = zeros n k
 
 pub some-load : Load
-unfolding loadRefusal headerTest allZero allBelow zeroElement partOf
-some-load = record { bytes = 1 ∷ 0 ∷ 1 ∷ replicate 254 0; lent = replicate 512 (pos 0); small = small; accepted = refl }
+unfolding loadRefusal headerTest heardBelow antennaHeard partOf
+some-load = record { bytes = 1 ∷ 0 ∷ 17 ∷ replicate 254 0; lent = replicate 512 (pos 0); small = small; accepted = refl }
   where
-    small : (k : ℕ) → getD (1 ∷ 0 ∷ 1 ∷ replicate 254 0) k 0 < 256
+    small : (k : ℕ) → getD (1 ∷ 0 ∷ 17 ∷ replicate 254 0) k 0 < 256
     small zero = lit< tt
     small (suc zero) = lit< tt
     small (suc (suc zero)) = lit< tt

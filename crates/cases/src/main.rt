@@ -1,5 +1,5 @@
-// Executes the run-only cases of document 01, "Bench values", through the calls that hosts link. Each call becomes a line: what was handed
-// over, the reply, and digests of the memory that it may write to.
+// Executes the run-only cases of document 01, "Bench values", and of document 02, U3, through the calls that hosts link. Each call becomes a
+// line: what was handed over, the reply, and digests of the memory that it may write to.
 mod calls;
 mod digest;
 mod matrix;
@@ -14,11 +14,17 @@ fn main() {
     allowance(Matrix::Full, 120);
     allowance(Matrix::Full, 121);
     print::text(b"A single element 1\n");
-    sizes(Matrix::Single);
-    allowance(Matrix::Single, 120);
+    refused(Matrix::Single);
     print::text(b"All parts -32768\n");
-    sizes(Matrix::Lowest);
-    allowance(Matrix::Lowest, 120);
+    refused(Matrix::Lowest);
+    print::text(b"Diagonal real parts 16, all other parts 32767\n");
+    refused(Matrix::Sixteen);
+    print::text(b"Diagonal real parts 17, all other parts 32767\n");
+    allowance(Matrix::Seventeen, 120);
+    print::text(b"Diagonal real parts 16 but antenna 5's 17, all other parts 32767\n");
+    allowance(Matrix::OneHeard, 120);
+    print::text(b"Diagonal real parts -17, all other parts 32767\n");
+    refused(Matrix::Negative);
 }
 
 // An area of 513 words, with a 7 in each before: a record of 257 bytes, then 258 bytes, which are refused and change nothing, then all turns.
@@ -43,4 +49,11 @@ fn allowance(matrix: Matrix, allowance: u16) {
     let turn = calls::run(0, allowance, &mut area);
     let last = calls::run(turn, 1, &mut area);
     calls::fetch(last, &area, &mut buffer);
+}
+
+// No antenna is heard: the record is refused, and the area keeps the 7 in each of its words.
+fn refused(matrix: Matrix) {
+    let record = matrix::record(matrix);
+    let mut area = [7i32; 512];
+    calls::load(&record[0..257], &mut area);
 }

@@ -10,6 +10,14 @@ pub enum Matrix {
     Single,
     // All parts are -32768.
     Lowest,
+    // The real parts on the diagonal are 16, all other parts are 32767.
+    Sixteen,
+    // They are 17.
+    Seventeen,
+    // They are 16 but antenna 5's, which is 17.
+    OneHeard,
+    // They are -17.
+    Negative,
 }
 
 // The 257 bytes of a record, and one more to hand over 258.
@@ -33,5 +41,21 @@ fn byte(matrix: Matrix, i: usize) -> u8
         Matrix::Full => ((i as u64 * 1103515245 + 12345) / 65536 % 256) as u8,
         Matrix::Single => { if i == 2 { 1 } else { 0 } }
         Matrix::Lowest => { if i % 2 == 1 { 128 } else { 0 } }
+        Matrix::Sixteen => loud(i, 0, 16),
+        Matrix::Seventeen => loud(i, 0, 17),
+        Matrix::OneHeard => { if i == 182 { 17 } else { loud(i, 0, 16) } }
+        Matrix::Negative => loud(i, 255, 239),
     }
+}
+
+// The byte at place i where each real part on the diagonal has these two bytes, and all other parts are 32767. One of the diagonal begins at every 36th
+// byte from the first on.
+fn loud(i: usize, high: u8, low: u8) -> u8 {
+    if i % 36 == 1 {
+        return high;
+    }
+    if i % 36 == 2 {
+        return low;
+    }
+    if i % 2 == 1 { 127 } else { 255 }
 }

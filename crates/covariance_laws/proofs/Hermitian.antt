@@ -13,7 +13,7 @@ use lib.Signed.{_≤ℤ_, leZ-yes, ltZ}
 use mir.Syntax.{w16}
 use mir.Val.{SFits}
 use Rattle.integers.specs.Square.{square}
-use Rattle.integers.specs.Sum.{sum, total}
+use Rattle.integers.specs.Sum.{sum}
 use Rattle.integers.specs.Within.{Within}
 use Rattle.integers.proofs.Laws.{abs-neg, square-is}
 use Rattle.integers.proofs.Ring.{_⊕_, _⊝_, _⊗_, neg, con, _≐_, ring}
@@ -28,6 +28,7 @@ use Rattle.covariance_laws.specs.Snapshots.{sampleAt, Parts16, termAt, s
 use Rattle.covariance_laws.specs.Accumulated.{addedOf}
 use Rattle.covariance_laws.specs.WrittenMatrix.{recordWritten}
 use Rattle.covariance_laws.specs.Hermitian.{Hermitian, AllHermitian}
+use Rattle.covariance_laws.specs.Power.{powerOf}
 use Rattle.covariance_laws.proofs.Accumulated.{accumulated}
 use Rattle.covariance_laws.proofs.Terms.{Sample16}
 use Rattle.covariance_laws.proofs.WrittenMatrix.{written-matrix}
@@ -132,8 +133,11 @@ module _ (l : List (List Sample)) (buffer : List ℕ) (short : Parts16 l) (accep
   imaginary-sum-near : (i j : ℕ) → natAbs (summed i j 1) ≤ addedOf l * (2 ^ 31 - 2 ^ 15)
   imaginary-sum-near i j = sum-abs (addedOf l) (2 ^ 31 - 2 ^ 15) (termAt l i j 1) (λ k h. imaginary-near (sampleAt l k i) (sampleAt l k j) (short k i) (short k j))
 
-  own-sum : (i : ℕ) → summed i i 0 ≡ pos (total (addedOf l) (λ k. square (sampleAt l k i .re) + square (sampleAt l k i .im)))
+  own-sum : (i : ℕ) → summed i i 0 ≡ pos (powerOf l i)
   own-sum i = sum-equal (addedOf l) (λ k h. real-own (sampleAt l k i)) ∙ sum-total (addedOf l) (λ k. square (sampleAt l k i .re) + square (sampleAt l k i .im))
+
+  pub own-element : (i : ℕ) → i < 8 → partOf (recordWritten (sumsAfter l) buffer) (8 * i + i) 0 ≡ normalized (addedOf l) (pos (powerOf l i))
+  own-element i h = element i i 0 h h (omega arith) ∙ ap (normalized (addedOf l)) (own-sum i)
 
 pub hermitian : AllHermitian
 hermitian l buffer short accepted =
@@ -152,6 +156,5 @@ hermitian l buffer short accepted =
       diagonal-imaginary = λ i h.
           part i i 1 h h lt1 ∙ ap (normalized n) (sum-zero n (λ k b. imaginary-own (sampleAt l k i))) ∙ normalized-zero n;
       diagonal-real = λ i h.
-          subst (λ (z : ℤ). pos 0 ≤ℤ z) (sym (part i i 0 h h lt0 ∙ ap (normalized n) (own-sum l buffer short accepted i)))
-          (normalized-positive n (total n (λ k. square (sampleAt l k i .re) + square (sampleAt l k i .im))));
+          subst (λ (z : ℤ). pos 0 ≤ℤ z) (sym (own-element l buffer short accepted i h)) (normalized-positive n (powerOf l i));
     }

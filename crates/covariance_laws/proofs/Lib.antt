@@ -4,4 +4,5 @@ pub mod SumsAfter
 pub mod Accumulated
 pub mod WrittenMatrix
 pub mod Hermitian
+pub mod Power
 pub mod Possible

@@ -29,6 +29,9 @@ module _ (s : Sums) (buffer : List ℕ) (accepted : writeOf s buffer .number ≡
   unfolding writeOf
   none = sym (write-by-number (writeRefusal (s .count) (s .words) buffer) s buffer) ∙ accepted
 
+  pub some-added : 0 < s .count
+  some-added = write-accepted (s .count) (s .words) buffer none .some
+
   buffer-is : writeOf s buffer .buffer ≡ filled 257 (matrixByte part) buffer
   unfolding writeOf writeBy
   buffer-is = rw none

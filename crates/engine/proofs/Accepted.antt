@@ -5,12 +5,12 @@ use mathlib.Core.List.{List}
 use Prim.Native.Nat.{ℕ, _≤_}
 use native.Mathlib.Omega.{arith}
 use borrow.Author.Tests.{ltb-false, le-ltb}
-use lib.Dec.{ltb}
+use lib.Dec.{ltb, eqb}
 use lib.IntN.{ℤ}
 use lib.ListN.{length}
 use Rattle.refusals.specs.Refusals.{first, headerTest, bufferTest}
 use Rattle.refusals.proofs.Refusals.{first-none, if-passed, unless-passed, Header, header-passed, header-passes, buffer-passed, buffer-passes}
-use Rattle.matrix_record.specs.MatrixRecord.{allZero}
+use Rattle.matrix_record.specs.MatrixRecord.{heardByte}
 use Rattle.result_record.specs.ResultRecord.{recordR, isFinished}
 use Rattle.workspace.specs.Workspace.{workspaceTest, R}
 use Rattle.engine.specs.Turns.{turnTest, endTest}
@@ -22,10 +22,10 @@ use Rattle.engine.specs.Whole.{wholeRefusal}
 
 -- ---- single tests
 
-room-passed : (l : List ℤ) → workspaceTest l ≡ 0 → 512 ≤ length l
+pub room-passed : (l : List ℤ) → workspaceTest l ≡ 0 → 512 ≤ length l
 room-passed l h = ltb-false _ _ (if-passed (ltb (length l) 512) 2 h)
 
-room-passes : (l : List ℤ) → 512 ≤ length l → workspaceTest l ≡ 0
+pub room-passes : (l : List ℤ) → 512 ≤ length l → workspaceTest l ≡ 0
 room-passes l h = rw (le-ltb (length l) 512 h)
 
 turn-passed : (turn : ℕ) → turnTest turn ≡ 0 → turn ≤ 120
@@ -36,14 +36,14 @@ turn-passed turn h = ltb-false _ _ (if-passed (ltb 120 turn) 4 h)
 pub record LoadAccepted (rec : List ℕ) (l : List ℤ) : Type 0 where
   pub header : Header 1 257 rec
   pub room : 512 ≤ length l
-  pub heard : allZero rec ≡ false
+  pub heard : eqb (heardByte rec) 0 ≡ false
 
 pub load-accepted : (rec : List ℕ) (l : List ℤ) → loadRefusal rec l ≡ 0 → LoadAccepted rec l
 unfolding loadRefusal
 load-accepted rec l h =
     let a = first-none (headerTest 1 257 rec) _ h in
     let b = first-none (workspaceTest l) _ (a .1) in
-    record { header = header-passed 1 257 rec (a .0); room = room-passed l (b .0); heard = if-passed (allZero rec) 3 (b .1) }
+    record { header = header-passed 1 257 rec (a .0); room = room-passed l (b .0); heard = if-passed (eqb (heardByte rec) 0) 3 (b .1) }
 
 pub load-passes : (rec : List ℕ) (l : List ℤ) → LoadAccepted rec l → loadRefusal rec l ≡ 0
 unfolding loadRefusal
@@ -119,7 +119,7 @@ whole-accepted rec l buffer h =
     let a = first-none (headerTest 1 257 rec) _ h in
     let b = first-none (workspaceTest l) _ (a .1) in
     let c = first-none (bufferTest 2049 buffer) _ (b .1) in
-    record { load = record { header = header-passed 1 257 rec (a .0); room = room-passed l (b .0); heard = if-passed (allZero rec) 3 (c .1) }; space = buffer-passed 2049 buffer (c .0) }
+    record { load = record { header = header-passed 1 257 rec (a .0); room = room-passed l (b .0); heard = if-passed (eqb (heardByte rec) 0) 3 (c .1) }; space = buffer-passed 2049 buffer (c .0) }
 
 pub whole-passes : (rec : List ℕ) (l : List ℤ) (buffer : List ℕ) → WholeAccepted rec l buffer → wholeRefusal rec l buffer ≡ 0
 unfolding wholeRefusal

@@ -24,8 +24,8 @@ pub fn load_refusal(bytes: &[u8], workspace: &[i32]) -> u8
     if workspace.len() < workspace::WORDS {
         return refusals::SHORT_WORKSPACE;
     }
-    if matrix_record::all_zero(bytes) {
-        return refusals::SILENT;
+    if matrix_record::heard_byte(bytes) == 0 {
+        return refusals::NONE_HEARD;
     }
     0
 }

@@ -25,8 +25,8 @@ pub fn whole_refusal(bytes: &[u8], workspace: &[i32], buffer: &[u8]) -> u8
     if buffer.len() < result_record::BYTES {
         return refusals::SHORT_BUFFER;
     }
-    if matrix_record::all_zero(bytes) {
-        return refusals::SILENT;
+    if matrix_record::heard_byte(bytes) == 0 {
+        return refusals::NONE_HEARD;
     }
     0
 }

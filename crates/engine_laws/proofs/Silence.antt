@@ -1,154 +1,160 @@
--- The hub that heard nothing: what is refused, and that an accepted matrix has an element other than zero. Assumes nothing.
-use mathlib.Core.Path.{_≡_, refl, sym, ap, _∙_, subst}
-use mathlib.Core.Logic.{_↔_, ⊎-elim}
+-- The hub that heard nothing: the tests of Load and Whole, and what they say of the bytes. Assumes nothing.
+use mathlib.Core.Path.{_≡_, refl, sym, _∙_, subst}
+use mathlib.Core.Logic.{_↔_, _⊎_, inl, inr, ⊎-elim}
 use mathlib.Core.Bool.{Bool, true, false, cond}
 use mathlib.Core.List.{List, _∷_}
 use Prim.Native.Nat.{ℕ, zero, suc, _+_, _-_, _*_, _/_, _%_, _^_, _≤_, _<_}
-use native.Mathlib.Nat.{not-suc-le-zero, le-of-suc-le-suc, eq-or-lt-of-le}
 use native.Mathlib.Omega.{arith}
-use borrow.Author.Tests.{le-ltb}
+use borrow.Author.Tests.{le-ltb, eq-eqb, eqb-true, ltb-true, ltb-false}
 use lib.Dec.{T, ltb, eqb}
-use lib.IntN.{ℤ, pos, negsuc, natAbs}
-use lib.ListN.{length, getD, replicate}
-use lib.Pow.{pow-pos}
+use lib.IntN.{ℤ, pos, negsuc}
+use lib.ListN.{length, replicate}
+use lib.Signed.{ltZ}
 use mir.Syntax.{w16}
 use mir.Val.{sel, toZ}
-use mir.Facts.{and-yes, eqb-yes}
-use Rattle.lists.specs.Lists.{allBelow}
-use Rattle.lists.proofs.Passing.{all-at, all-of}
-use Rattle.matrix_record.specs.MatrixRecord.{partOf, zeroElement, zeroColumn, allZero, heardBelow, heardByte}
-use Rattle.refusals.specs.Refusals.{failsIf, headerTest}
-use Rattle.refusals.proofs.Refusals.{header-passes, buffer-passes}
+use Rattle.matrix_record.specs.MatrixRecord.{partOf, antennaHeard, heardBelow, heardByte}
+use Rattle.matrix_record.proofs.Heard.{heard-bit, unheard, none-heard}
+use Rattle.refusals.specs.Refusals.{failsIf, headerTest, bufferTest}
+use Rattle.refusals.proofs.Refusals.{first-past, if-other, header-number, header-passed, header-passes, buffer-passed, buffer-passes}
+use Rattle.workspace.specs.Workspace.{workspaceTest}
 use Rattle.engine.specs.Load.{loadRefusal, loadBy, loadOf}
 use Rattle.engine.specs.Whole.{wholeRefusal, wholeDone, wholeBy, wholeOf}
-use Rattle.engine.proofs.Accepted.{load-accepted, load-passes, whole-accepted}
-use Rattle.engine_laws.specs.Silence.{SizedMatrix, NothingHeard, Silence}
+use Rattle.engine.proofs.Accepted.{room-passed, room-passes, LoadAccepted, load-accepted, whole-accepted}
+use Rattle.engine_laws.specs.Silence.{SizedMatrix, diagonalBits, Unheard, NoneHeard, Silence}
 
--- ---- a heard byte of 0 means zeros only
+-- ---- an antenna and its two bytes
 
-clear : (b : Bool) (m p : ℕ) → 0 < p → m + cond b 0 p ≡ 0 → (b ≡ true) × (m ≡ 0)
-clear true m p q h = (refl, omega arith)
-clear false m p q h = absurd (omega arith)
-
-module _ (rec : List ℕ) where
-  columns-zero : (n : ℕ) → heardBelow rec n ≡ 0 → (k : ℕ) → k < n → zeroColumn rec k ≡ true
-  unfolding heardBelow
-  columns-zero zero h k l = absurd (not-suc-le-zero l)
-  columns-zero (suc n) h k l =
-      let c = clear (zeroColumn rec n) (heardBelow rec n) (2 ^ n) (pow-pos n) h in
-      ⊎-elim (λ q. rw q (c .0)) (λ lt. columns-zero n (c .1) k lt) (eq-or-lt-of-le (le-of-suc-le-suc l))
-
-  elements-zero : heardByte rec ≡ 0 → allZero rec ≡ true
-  unfolding allZero zeroColumn
-  elements-zero h = all-of (zeroElement rec) 64 each
-    where
-      each : (e : ℕ) → e < 64 → zeroElement rec e ≡ true
-      each e l =
-          let at : 8 * (e / 8) + e % 8 ≡ e = omega arith in
-          subst (λ (m : ℕ). zeroElement rec m ≡ true) at (all-at (λ i. zeroElement rec (8 * i + e % 8)) 8 (columns-zero 8 h (e % 8) (omega arith)) (e / 8) (omega arith))
-
--- ---- zero elements and zero bytes
-
-by-sign : (b : Bool) (n m : ℕ) → T (eqb (natAbs (sel b (pos n) (negsuc m))) 0) → n ≡ 0
-by-sign true n m t = eqb-yes {a = n} {b = 0} t
-by-sign false n m t = absurd (omega (arith, eqb-yes {a = suc m} {b = 0} t))
-
--- 16 bits that stand for 0 are 0
-bits-zero : (n : ℕ) → T (eqb (natAbs (toZ w16 n)) 0) → n ≡ 0
-bits-zero n t = by-sign (ltb n 32768) n (65536 - suc n) t
+-- 16 bits stand for a number that is not above 16
+bits-iff : (n : ℕ) → (ltZ (pos 16) (toZ w16 n) ≡ false) ↔ ((n ≤ 16) ⊎ (32768 ≤ n))
+bits-iff n = by-sign (ltb n 32768) refl
+  where
+    by-sign : (b : Bool) → ltb n 32768 ≡ b → (ltZ (pos 16) (sel b (pos n) (negsuc (65536 - suc n))) ≡ false) ↔ ((n ≤ 16) ⊎ (32768 ≤ n))
+    by-sign true e = (λ h. inl (ltb-false 16 n h), ⊎-elim (λ h. le-ltb 16 n h) (λ h. absurd (omega (arith, ltb-true n 32768 e))))
+    by-sign false e = (λ h. inr (ltb-false n 32768 e), λ h. refl)
 
 module _ (rec : List ℕ) where
-  -- a part that is 0 has two zero bytes
-  part-bytes : (e q : ℕ) → T (eqb (natAbs (partOf rec e q)) 0) → (getD rec (1 + 4 * e + 2 * q) 0 ≡ 0) × (getD rec (1 + 4 * e + 2 * q + 1) 0 ≡ 0)
-  unfolding partOf
-  part-bytes e q t =
-      let n = bits-zero (getD rec (1 + 4 * e + 2 * q) 0 * 256 + getD rec (1 + 4 * e + 2 * q + 1) 0) t in
-      (omega (arith, n), omega (arith, n))
+  antenna-iff : (k : ℕ) → (antennaHeard rec k ≡ false) ↔ Unheard rec k
+  unfolding antennaHeard partOf
+  antenna-iff k =
+      let high : 1 + 4 * (8 * k + k) + 2 * 0 ≡ 1 + 36 * k = omega arith in
+      let low : 1 + 4 * (8 * k + k) + 2 * 0 + 1 ≡ 2 + 36 * k = omega arith in
+      rw (low, high) (bits-iff (diagonalBits rec k))
 
-  -- and two zero bytes make a part that is 0
-  part-zero : (e q : ℕ) → getD rec (1 + 4 * e + 2 * q) 0 ≡ 0 → getD rec (1 + 4 * e + 2 * q + 1) 0 ≡ 0 → eqb (natAbs (partOf rec e q)) 0 ≡ true
-  unfolding partOf
-  part-zero e q x y = rw (x, y)
+  byte-iff : (heardByte rec ≡ 0) ↔ NoneHeard rec
+  byte-iff = (λ h k l. antenna-iff k .0 (unheard rec 8 h k l), λ h. none-heard rec 8 (λ k l. antenna-iff k .1 (h k l)))
 
-  -- the four bytes of a zero element
-  element-bytes : (e : ℕ) → zeroElement rec e ≡ true → (r : ℕ) → r < 4 → getD rec (1 + (4 * e + r)) 0 ≡ 0
-  unfolding zeroElement
-  element-bytes e t r h =
-      let a = and-yes (eqb (natAbs (partOf rec e 0)) 0) (eqb (natAbs (partOf rec e 1)) 0) (subst T (sym t) tt) in
-      pick r h (part-bytes e 0 (a .0)) (part-bytes e 1 (a .1))
+  bit-iff : (k : ℕ) → k < 8 → (heardByte rec / 2 ^ k % 2 ≡ 0) ↔ Unheard rec k
+  bit-iff k l = rw (heard-bit rec 8 k l) (clear (antennaHeard rec k) (antenna-iff k))
     where
-      Both : ℕ → Type 0
-      Both q = (getD rec (1 + 4 * e + 2 * q) 0 ≡ 0) × (getD rec (1 + 4 * e + 2 * q + 1) 0 ≡ 0)
+      clear : {P : Type 0} (b : Bool) → (b ≡ false) ↔ P → (_≡_ {A = ℕ} (cond b 1 0) 0) ↔ P
+      clear true i = (λ h. absurd (omega (arith, h)), λ p. absurd (subst T (i .1 p) tt))
+      clear false i = (λ h. i .0 refl, λ p. refl)
 
-      at : (m n : ℕ) → m ≡ n → getD rec m 0 ≡ 0 → getD rec n 0 ≡ 0
-      at m n q z = subst (λ (k : ℕ). getD rec k 0 ≡ 0) q z
+-- ---- the numbers and heard bytes that are answered
 
-      pick : (r : ℕ) → r < 4 → Both 0 → Both 1 → getD rec (1 + (4 * e + r)) 0 ≡ 0
-      pick zero h x y = at _ _ (omega arith) (x .0)
-      pick (suc zero) h x y = at _ _ (omega arith) (x .1)
-      pick (suc (suc zero)) h x y = at _ _ (omega arith) (y .0)
-      pick (suc (suc (suc zero))) h x y = at _ _ (omega arith) (y .1)
-      pick (suc (suc (suc (suc r)))) h x y = absurd (omega arith)
-
-  nothing-heard : allZero rec ≡ true → NothingHeard rec
-  unfolding allZero
-  nothing-heard z k l =
-      let at : 4 * (k / 4) + k % 4 ≡ k = omega arith in
-      subst (λ (m : ℕ). getD rec (1 + m) 0 ≡ 0) at (element-bytes (k / 4) (all-at (zeroElement rec) 64 z (k / 4) (omega arith)) (k % 4) (omega arith))
-
-  all-zero : NothingHeard rec → allZero rec ≡ true
-  unfolding allZero zeroElement
-  all-zero z = all-of (zeroElement rec) 64 (λ e l. rw (part e 0 l (omega arith), part e 1 l (omega arith)))
-    where
-      at : (m : ℕ) → 1 ≤ m → m < 257 → getD rec m 0 ≡ 0
-      at m lo hi = let e : 1 + (m - 1) ≡ m = omega arith in subst (λ (n : ℕ). getD rec n 0 ≡ 0) e (z (m - 1) (omega arith))
-
-      part : (e q : ℕ) → e < 64 → q < 2 → eqb (natAbs (partOf rec e q)) 0 ≡ true
-      part e q l h = part-zero e q (at (1 + 4 * e + 2 * q) (omega arith) (omega arith)) (at (1 + 4 * e + 2 * q + 1) (omega arith) (omega arith))
-
--- ---- the tests
-
-not-loaded : (rec : List ℕ) (l : List ℤ) → allZero rec ≡ true → loadRefusal rec l ≡ 0 → ⊥
-not-loaded rec l z h = omega (arith, ap {B = ℕ} (λ b. cond b 1 0) (sym z ∙ load-accepted rec l h .heard))
-
-number : (l : List ℤ) → 512 ≤ length l → loadRefusal (1 ∷ replicate 256 0) l ≡ 4
-unfolding loadRefusal headerTest allZero allBelow zeroElement partOf
-number l room = rw (le-ltb (length l) 512 room)
-
--- where only the last test is left, its number is that of its Boolean
-last-test : (b : Bool) → (failsIf b 4 ≡ 4) ↔ (b ≡ true)
-last-test true = (λ h. refl, λ h. refl)
-last-test false = (λ h. absurd (omega (arith, h)), λ h. absurd (subst T (sym h) tt))
-
-zeros-iff : (rec : List ℕ) → (failsIf (allZero rec) 4 ≡ 4) ↔ NothingHeard rec
-zeros-iff rec = (λ h. nothing-heard rec (last-test (allZero rec) .0 h), λ h. last-test (allZero rec) .1 (all-zero rec h))
-
-load-number : (number : ℕ) (rec : List ℕ) (l : List ℤ) → loadBy number rec l .reply .number ≡ number
+load-answers : (n : ℕ) (rec : List ℕ) (l : List ℤ) → loadBy n rec l .reply .number ≡ n
 unfolding loadBy
-load-number zero rec l = refl
-load-number (suc n) rec l = refl
+load-answers zero rec l = refl
+load-answers (suc n) rec l = refl
 
-whole-number : (number : ℕ) (rec : List ℕ) (l : List ℤ) (buffer : List ℕ) → wholeBy number rec l buffer .reply .number ≡ number
+whole-answers : (n : ℕ) (rec : List ℕ) (l : List ℤ) (buffer : List ℕ) → wholeBy n rec l buffer .reply .number ≡ n
 unfolding wholeBy wholeDone
-whole-number zero rec l buffer = refl
-whole-number (suc n) rec l buffer = refl
+whole-answers zero rec l buffer = refl
+whole-answers (suc n) rec l buffer = refl
 
-load-iff : (rec : List ℕ) (l : List ℤ) → SizedMatrix rec → 512 ≤ length l → (loadOf rec l .reply .number ≡ 4) ↔ NothingHeard rec
-unfolding loadOf loadRefusal
-load-iff rec l h room =
-    rw (load-number, header-passes 1 256 rec (record { tagged = h .0; sized = h .1 }), le-ltb (length l) 512 room) (zeros-iff rec)
+load-refused : (rec : List ℕ) (l : List ℤ) → loadOf rec l .reply .number ≡ loadRefusal rec l
+unfolding loadOf
+load-refused rec l = load-answers (loadRefusal rec l) rec l
 
-whole-iff : (rec : List ℕ) (l : List ℤ) (buffer : List ℕ) → SizedMatrix rec → 512 ≤ length l → 2049 ≤ length buffer → (wholeOf rec l buffer .reply .number ≡ 4) ↔ NothingHeard rec
-unfolding wholeOf wholeRefusal
-whole-iff rec l buffer h room space =
-    rw (whole-number, header-passes 1 256 rec (record { tagged = h .0; sized = h .1 }), le-ltb (length l) 512 room, buffer-passes 2049 buffer space) (zeros-iff rec)
+whole-refused : (rec : List ℕ) (l : List ℤ) (buffer : List ℕ) → wholeOf rec l buffer .reply .number ≡ wholeRefusal rec l buffer
+unfolding wholeOf
+whole-refused rec l buffer = whole-answers (wholeRefusal rec l buffer) rec l buffer
+
+load-answers-heard : (rec : List ℕ) (l : List ℤ) → loadRefusal rec l ≡ 0 → loadOf rec l .reply .heard ≡ heardByte rec
+unfolding loadOf loadBy
+load-answers-heard rec l h = rw h
+
+whole-answers-heard : (rec : List ℕ) (l : List ℤ) (buffer : List ℕ) → wholeRefusal rec l buffer ≡ 0 → wholeOf rec l buffer .reply .heard ≡ heardByte rec
+unfolding wholeOf wholeBy wholeDone
+whole-answers-heard rec l buffer h = rw h
+
+-- ---- an accepted call
+
+heard-not-0 : (rec : List ℕ) (l : List ℤ) → LoadAccepted rec l → heardByte rec ≡ 0 → ⊥
+heard-not-0 rec l a z = subst T (sym (eq-eqb (heardByte rec) 0 z) ∙ a .heard) tt
+
+load-taken : (rec : List ℕ) (l : List ℤ) → loadOf rec l .reply .number ≡ 0 → loadRefusal rec l ≡ 0
+load-taken rec l h = sym (load-refused rec l) ∙ h
+
+whole-taken : (rec : List ℕ) (l : List ℤ) (buffer : List ℕ) → wholeOf rec l buffer .reply .number ≡ 0 → wholeRefusal rec l buffer ≡ 0
+whole-taken rec l buffer h = sym (whole-refused rec l buffer) ∙ h
+
+-- ---- number 4
+
+-- the last test of all
+silent-iff : (rec : List ℕ) → (failsIf (eqb (heardByte rec) 0) 4 ≡ 4) ↔ (heardByte rec ≡ 0)
+silent-iff rec = by-test (eqb (heardByte rec) 0) refl
+  where
+    by-test : (b : Bool) → eqb (heardByte rec) 0 ≡ b → (failsIf b 4 ≡ 4) ↔ (heardByte rec ≡ 0)
+    by-test true e = (λ h. eqb-true (heardByte rec) 0 e, λ h. refl)
+    by-test false e = (λ h. absurd (omega (arith, h)), λ h. absurd (subst T (sym (eq-eqb (heardByte rec) 0 h) ∙ e) tt))
+
+abbrev LoadSilent : List ℕ → List ℤ → Type 0
+LoadSilent rec l = SizedMatrix rec × ((512 ≤ length l) × (heardByte rec ≡ 0))
+
+load-silent : (rec : List ℕ) (l : List ℤ) → loadRefusal rec l ≡ 4 → LoadSilent rec l
+unfolding loadRefusal
+load-silent rec l h =
+    let a = first-past (headerTest 1 257 rec) _ 3 (λ e. omega (arith, header-number 1 257 rec)) h in
+    let b = first-past (workspaceTest l) _ 3 (if-other (ltb (length l) 512) 3 3 (λ e. omega (arith, e))) (a .1) in
+    let s = header-passed 1 257 rec (a .0) in
+    ((s .tagged, s .sized), (room-passed l (b .0), silent-iff rec .0 (b .1)))
+
+silent-loaded : (rec : List ℕ) (l : List ℤ) → LoadSilent rec l → loadRefusal rec l ≡ 4
+unfolding loadRefusal
+silent-loaded rec l s = rw (header-passes 1 256 rec (record { tagged = s .0 .0; sized = s .0 .1 }), room-passes l (s .1 .0)) (silent-iff rec .1 (s .1 .1))
+
+abbrev WholeSilent : List ℕ → List ℤ → List ℕ → Type 0
+WholeSilent rec l buffer = SizedMatrix rec × ((512 ≤ length l) × ((2049 ≤ length buffer) × (heardByte rec ≡ 0)))
+
+whole-silent : (rec : List ℕ) (l : List ℤ) (buffer : List ℕ) → wholeRefusal rec l buffer ≡ 4 → WholeSilent rec l buffer
+unfolding wholeRefusal
+whole-silent rec l buffer h =
+    let a = first-past (headerTest 1 257 rec) _ 3 (λ e. omega (arith, header-number 1 257 rec)) h in
+    let b = first-past (workspaceTest l) _ 3 (if-other (ltb (length l) 512) 3 3 (λ e. omega (arith, e))) (a .1) in
+    let c = first-past (bufferTest 2049 buffer) _ 3 (if-other (ltb (length buffer) 2049) 7 3 (λ e. omega (arith, e))) (b .1) in
+    let s = header-passed 1 257 rec (a .0) in
+    ((s .tagged, s .sized), (room-passed l (b .0), (buffer-passed 2049 buffer (c .0), silent-iff rec .0 (c .1))))
+
+silent-whole : (rec : List ℕ) (l : List ℤ) (buffer : List ℕ) → WholeSilent rec l buffer → wholeRefusal rec l buffer ≡ 4
+unfolding wholeRefusal
+silent-whole rec l buffer s =
+    rw (header-passes 1 256 rec (record { tagged = s .0 .0; sized = s .0 .1 }), room-passes l (s .1 .0), buffer-passes 2049 buffer (s .1 .1 .0)) (silent-iff rec .1 (s .1 .1 .1))
+
+load-number : (rec : List ℕ) (l : List ℤ) → (loadOf rec l .reply .number ≡ 4) ↔ LoadSilent rec l
+load-number rec l = rw (load-refused rec l) (load-silent rec l, silent-loaded rec l)
+
+whole-number : (rec : List ℕ) (l : List ℤ) (buffer : List ℕ) → (wholeOf rec l buffer .reply .number ≡ 4) ↔ WholeSilent rec l buffer
+whole-number rec l buffer = rw (whole-refused rec l buffer) (whole-silent rec l buffer, silent-whole rec l buffer)
+
+-- ---- nothing but zeros
+
+zero-record : heardByte (1 ∷ replicate 256 0) ≡ 0
+unfolding heardBelow antennaHeard partOf
+zero-record = refl
 
 pub silence : Silence
 silence = record {
-  not-loaded = not-loaded;
-  not-factored = λ rec l buffer z h. not-loaded rec l z (load-passes rec l (whole-accepted rec l buffer h .load));
-  number = number;
-  heard = λ rec l h z. not-loaded rec l (elements-zero rec z) h;
-  load-iff = load-iff;
-  whole-iff = whole-iff;
+  load-heard = λ rec l h z. heard-not-0 rec l (load-accepted rec l (load-taken rec l h)) (sym (load-answers-heard rec l (load-taken rec l h)) ∙ z);
+  whole-heard = λ rec l buffer h z. heard-not-0 rec l (whole-accepted rec l buffer (whole-taken rec l buffer h) .load) (sym (whole-answers-heard rec l buffer (whole-taken rec l buffer h)) ∙ z);
+  load-bit = λ rec l h k b. rw (load-answers-heard rec l (load-taken rec l h)) (bit-iff rec k b);
+  whole-bit = λ rec l buffer h k b. rw (whole-answers-heard rec l buffer (whole-taken rec l buffer h)) (bit-iff rec k b);
+  load-number = load-number;
+  whole-number = whole-number;
+  load-iff = λ rec l s room. (λ h. byte-iff rec .0 (load-number rec l .0 h .1 .1), λ h. load-number rec l .1 (s, (room, byte-iff rec .1 h)));
+  whole-iff = λ rec l buffer s room space. (λ h. byte-iff rec .0 (whole-number rec l buffer .0 h .1 .1 .1), λ h. whole-number rec l buffer .1 (s, (room, (space, byte-iff rec .1 h))));
+  not-loaded = λ rec l n h. heard-not-0 rec l (load-accepted rec l (load-taken rec l h)) (byte-iff rec .1 n);
+  not-factored = λ rec l buffer n h. heard-not-0 rec l (whole-accepted rec l buffer (whole-taken rec l buffer h) .load) (byte-iff rec .1 n);
+  zeros-loaded = λ l room. load-number _ l .1 ((refl, refl), (room, zero-record));
+  zeros-factored = λ l buffer room space. whole-number _ l buffer .1 ((refl, refl), (room, (space, zero-record)));
 }

@@ -1,21 +1,23 @@
 -- The marked cases M1 to M12 of document 01, "Bench values", and further ones: one table, and one statement over all its rows, computed from the
--- definitions that the contracts cite. The rows are numerals, document 01's own or worked out from its words and those of document 02, U1, and use
+-- definitions that the contracts cite. The rows are numerals, document 01's own or worked out from its words and those of document 02, U1 and U3, and use
 -- nothing of those definitions. Assumes nothing.
 use mathlib.Core.Path.{_≡_, refl}
+use mathlib.Core.Bool.{cond}
 use mathlib.Core.List.{List, [], _∷_, _++_}
-use Prim.Native.Nat.{ℕ, _+_, _-_, _*_}
+use Prim.Native.Nat.{ℕ, _+_, _-_, _*_, _/_, _%_}
+use lib.Dec.{ltb}
 use lib.IntN.{ℤ, pos, negsuc}
 use lib.ListN.{getD, replicate}
 use Rattle.integers.specs.Sum.{total}
 use Rattle.cordic.specs.Word.{scaled, saturate}
 use Rattle.cordic.specs.MicroRotation.{oriented, orientedPair, microRotation, microRotations, leading, sign}
-use Rattle.lists.specs.Lists.{tabulate, allBelow}
+use Rattle.lists.specs.Lists.{tabulate}
 use Rattle.rotation.specs.Column.{columnAt, rotatedAt, stored, columnStored}
 use Rattle.rotation.specs.Rotated.{rotatedWord, rotated, saturationsAt, saturationsOf}
 use Rattle.rotation.specs.Saturations.{added}
 use Rattle.schedule.specs.Schedule.{stageRotations, survivors, stages, upFrom, columnStages, stagesRotations, columnsRotations, schedule, rotationAt}
 use Rattle.refusals.specs.Refusals.{headerTest}
-use Rattle.matrix_record.specs.MatrixRecord.{partOf, realEntry, zeroElement, allZero, zeroColumn, heardBelow}
+use Rattle.matrix_record.specs.MatrixRecord.{partOf, realEntry, antennaHeard, heardBelow}
 use Rattle.result_record.specs.ResultRecord.{resultWord, resultByte}
 use Rattle.workspace.specs.Loading.{loadedAt, loadedWord}
 use Rattle.workspace.specs.Workspace.{wordIn, R, Q}
@@ -28,8 +30,9 @@ pub data Case : Type 0 where
   -- a matrix record has these four bytes from a byte position on, and all others but the first are zero: Load puts this word at a row and a
   -- column
   loads : ℕ → List ℕ → ℕ → ℕ → ℤ → Case
-  -- to such a record Load and Whole answer this heard byte
-  hears : ℕ → List ℕ → ℕ → Case
+  -- a matrix record has these two bytes for the real part of each of the eight diagonal elements, and this byte everywhere else but at first: Load and
+  -- Whole answer this heard byte
+  hears : List ℕ → ℕ → ℕ → Case
   -- a workspace has this word at a row and a column, and all others are zero: the result record has these four bytes from a byte position on
   writes : ℕ → ℕ → ℤ → ℕ → List ℕ → Case
   -- a rotation's number, its column, upper and lower row
@@ -45,6 +48,10 @@ pub data Case : Type 0 where
 -- 257 bytes: 01, and these four at position p
 abbrev pub matrixWith : ℕ → List ℕ → List ℕ
 matrixWith p bytes = 1 ∷ replicate (p - 1) 0 ++ bytes ++ replicate (253 - p) 0
+
+-- 257 bytes: 01, and from byte 1 on two of these at every 36th byte and the one after it; all others are b
+abbrev pub matrixHeard : List ℕ → ℕ → List ℕ
+matrixHeard parts b = 1 ∷ tabulate 256 (λ p. cond (ltb (p % 36) 2) (getD parts (2 * (p / 36) + p % 36) 0) b)
 
 -- 16 rows of 32 words, with w at row i, column j
 abbrev pub workspaceWith : ℕ → ℕ → ℤ → List ℤ
@@ -63,9 +70,9 @@ lastRowsWith x y j u v = replicate 448 (pos 0) ++ lastRow x j u ++ lastRow y j v
 
 abbrev pub Says : Case → Type 0
 Says (loads p bytes i j w) = loadedWord (matrixWith p bytes) (i * 32 + j) ≡ w
-Says (hears p bytes h) =
-    (loadOf (matrixWith p bytes) (replicate 512 (pos 0)) .reply .heard ≡ h)
-    × (wholeOf (matrixWith p bytes) (replicate 512 (pos 0)) (replicate 2049 0) .reply .heard ≡ h)
+Says (hears parts b h) =
+    (loadOf (matrixHeard parts b) (replicate 512 (pos 0)) .reply .heard ≡ h)
+    × (wholeOf (matrixHeard parts b) (replicate 512 (pos 0)) (replicate 2049 0) .reply .heard ≡ h)
 Says (writes i j w p bytes) = tabulate 4 (λ k. resultByte (R (workspaceWith i j w)) (Q (workspaceWith i j w)) (p + k)) ≡ bytes
 Says (schedules n j u l) = rotationAt n ≡ record { column = j; upper = u; lower = l }
 Says (scales w x) = scaled w ≡ x
@@ -98,11 +105,12 @@ cases =
     -- beside it the identity with 2^30 for one: its one from a zero, and from the one of another row
     ∷ loads 5 (0 ∷ 1 ∷ 0 ∷ 2 ∷ []) 0 16 (pos 1073741824)
     ∷ loads 5 (0 ∷ 1 ∷ 0 ∷ 2 ∷ []) 1 16 (pos 0)
-    -- the heard byte: a bit for each column and not for each row, of value 2^k, the last one too, and an imaginary part alone is heard
-    ∷ hears 33 (0 ∷ 1 ∷ 0 ∷ 0 ∷ []) 1
-    ∷ hears 5 (0 ∷ 1 ∷ 0 ∷ 0 ∷ []) 2
-    ∷ hears 253 (0 ∷ 1 ∷ 0 ∷ 0 ∷ []) 128
-    ∷ hears 117 (0 ∷ 0 ∷ 0 ∷ 1 ∷ []) 32
+    -- the heard byte: the first antenna alone, the last alone, and all, each by 17 and all else loud, faint or zero
+    ∷ hears (0 ∷ 17 ∷ 0 ∷ 16 ∷ 0 ∷ 16 ∷ 0 ∷ 16 ∷ 0 ∷ 16 ∷ 0 ∷ 16 ∷ 0 ∷ 16 ∷ 0 ∷ 16 ∷ []) 127 1
+    ∷ hears (0 ∷ 0 ∷ 0 ∷ 0 ∷ 0 ∷ 0 ∷ 0 ∷ 0 ∷ 0 ∷ 0 ∷ 0 ∷ 0 ∷ 0 ∷ 0 ∷ 0 ∷ 17 ∷ []) 255 128
+    ∷ hears (0 ∷ 17 ∷ 0 ∷ 17 ∷ 0 ∷ 17 ∷ 0 ∷ 17 ∷ 0 ∷ 17 ∷ 0 ∷ 17 ∷ 0 ∷ 17 ∷ 0 ∷ 17 ∷ []) 0 255
+    -- 16, 17, -17, -32768, -1, 32767, 256 and 0: antennas 1, 5 and 6
+    ∷ hears (0 ∷ 16 ∷ 0 ∷ 17 ∷ 255 ∷ 239 ∷ 128 ∷ 0 ∷ 255 ∷ 255 ∷ 127 ∷ 255 ∷ 1 ∷ 0 ∷ 0 ∷ 0 ∷ []) 127 98
     -- the result record: the kind byte 02 and the high byte first
     ∷ writes 0 0 (pos 16909060) 0 (2 ∷ 1 ∷ 2 ∷ 3 ∷ [])
     -- R row by row: word (0, 1) from word (1, 0)
@@ -146,6 +154,6 @@ cases =
     ∷ []
 
 pub marked : AllSay cases
-unfolding cases loadOf loadBy loadRefusal wholeOf wholeBy wholeDone wholeRefusal headerTest allZero loadedAt realEntry partOf heardBelow zeroColumn zeroElement allBelow resultByte resultWord R Q wordIn rotationAt schedule columnsRotations stagesRotations columnStages stages survivors upFrom stageRotations scaled saturate oriented orientedPair microRotation microRotations leading sign columnAt rotatedAt stored columnStored rotatedWord tabulate rotated total saturationsAt saturationsOf added workspaceSaturations rotationsMade saturationsCounted runRefusal runMade runBy runOf
+unfolding cases loadOf loadBy loadRefusal wholeOf wholeBy wholeDone wholeRefusal headerTest loadedAt realEntry partOf heardBelow antennaHeard resultByte resultWord R Q wordIn rotationAt schedule columnsRotations stagesRotations columnStages stages survivors upFrom stageRotations scaled saturate oriented orientedPair microRotation microRotations leading sign columnAt rotatedAt stored columnStored rotatedWord tabulate rotated total saturationsAt saturationsOf added workspaceSaturations rotationsMade saturationsCounted runRefusal runMade runBy runOf
 marked =
     (refl, (refl, (refl, (refl, (refl, (refl, (refl, (refl, (refl, (refl, (refl, (refl, (refl, ((refl, refl), ((refl, refl), ((refl, refl), ((refl, refl), (refl, (refl, (refl, (refl, (refl, (refl, (refl, (refl, (refl, (refl, (refl, (refl, (refl, (refl, (refl, (refl, (refl, (refl, ((refl, refl), ((refl, refl), ((refl, refl), ((refl, refl), ((refl, refl), ((refl, refl), ((refl, refl), ((refl, refl), ((refl, refl), tt))))))))))))))))))))))))))))))))))))))))))))

@@ -3,13 +3,15 @@
 -- Where it can, a refused row fails the tests that follow as well, so that the rows tell the sequence of the tests. An accepted row (number 0) lies just
 -- beside what is refused. Assumes nothing.
 use mathlib.Core.Path.{_≡_, refl}
+use mathlib.Core.Bool.{cond}
 use mathlib.Core.List.{List, [], _∷_, _++_}
-use Prim.Native.Nat.{ℕ}
+use Prim.Native.Nat.{ℕ, _%_}
+use lib.Dec.{eqb}
 use lib.IntN.{ℤ, pos, negsuc}
 use lib.ListN.{replicate}
-use Rattle.lists.specs.Lists.{allBelow}
+use Rattle.lists.specs.Lists.{tabulate, allBelow}
 use Rattle.refusals.specs.Refusals.{headerTest}
-use Rattle.matrix_record.specs.MatrixRecord.{partOf, zeroElement, allZero}
+use Rattle.matrix_record.specs.MatrixRecord.{partOf, antennaHeard, heardBelow}
 use Rattle.result_record.specs.ResultRecord.{recordWord, recordR, isFinishedAt, isFinished}
 use Rattle.workspace.specs.Workspace.{wordIn, R}
 use Rattle.engine.specs.Load.{loadRefusal, loadBy, loadOf}
@@ -49,6 +51,10 @@ zeroWords n = replicate n (pos 0)
 abbrev pub zeroBytes : ℕ → List ℕ
 zeroBytes n = replicate n 0
 
+-- a matrix record in which the real part of each diagonal element is d, and each other byte but the first is b
+abbrev pub withDiagonal : ℕ → ℕ → List ℕ
+withDiagonal d b = 1 ∷ tabulate 256 (λ p. cond (eqb (p % 36) 0) 0 (cond (eqb (p % 36) 1) d b))
+
 unfoldable pub examples : List Example
 examples =
     -- ---- Load: tests 1, 2, 3, 4
@@ -63,8 +69,14 @@ examples =
     ∷ loading (1 ∷ zeroBytes 256) (zeroWords 511) 3
     -- 4: "01 and 256 bytes 00"
     ∷ loading (1 ∷ zeroBytes 256) (zeroWords 512) 4
-    -- accepted: the last element alone is not zero, and that in its imaginary part
-    ∷ loading (1 ∷ zeroBytes 255 ++ 1 ∷ []) (zeroWords 512) 0
+    -- 4: "a single element 1", "all parts -32768"
+    ∷ loading (1 ∷ 0 ∷ 1 ∷ zeroBytes 254) (zeroWords 512) 4
+    ∷ loading (1 ∷ tabulate 256 (λ p. cond (eqb (p % 2) 0) 128 0)) (zeroWords 512) 4
+    -- 4: no real part on the diagonal is above 16, and all others are loud
+    ∷ loading (withDiagonal 16 127) (zeroWords 512) 4
+    -- accepted: 17 in its place; and the last antenna alone is heard
+    ∷ loading (withDiagonal 17 127) (zeroWords 512) 0
+    ∷ loading (1 ∷ zeroBytes 253 ++ 17 ∷ zeroBytes 2) (zeroWords 512) 0
     -- ---- Run: tests 3, 5
     -- 3: "511 words"
     ∷ running 121 0 (zeroWords 511) 3
@@ -118,11 +130,13 @@ examples =
     ∷ factoring (1 ∷ zeroBytes 256) (zeroWords 512) (zeroBytes 2048) 7
     -- 4: "01 and 256 bytes 00"
     ∷ factoring (1 ∷ zeroBytes 256) (zeroWords 512) (zeroBytes 2049) 4
-    -- accepted: the last element alone is not zero
-    ∷ factoring (1 ∷ zeroBytes 255 ++ 1 ∷ []) (zeroWords 512) (zeroBytes 2049) 0
+    -- 4: no real part on the diagonal is above 16, and all others are loud
+    ∷ factoring (withDiagonal 16 127) (zeroWords 512) (zeroBytes 2049) 4
+    -- accepted: 17 in its place
+    ∷ factoring (withDiagonal 17 127) (zeroWords 512) (zeroBytes 2049) 0
     ∷ []
 
 pub numbered : AllAnswer examples
-unfolding examples loadOf loadBy loadRefusal runOf runBy runMade runRefusal fetchOf fetchBy fetchRefusal readOf readBy readRefusal wholeOf wholeBy wholeDone wholeRefusal headerTest allZero allBelow zeroElement partOf isFinished isFinishedAt R wordIn recordR recordWord
+unfolding examples loadOf loadBy loadRefusal runOf runBy runMade runRefusal fetchOf fetchBy fetchRefusal readOf readBy readRefusal wholeOf wholeBy wholeDone wholeRefusal headerTest tabulate allBelow heardBelow antennaHeard partOf isFinished isFinishedAt R wordIn recordR recordWord
 numbered =
-    (refl, (refl, (refl, (refl, (refl, (refl, (refl, (refl, (refl, (refl, (refl, (refl, (refl, (refl, (refl, (refl, (refl, (refl, (refl, (refl, (refl, (refl, (refl, (refl, (refl, (refl, (refl, (refl, (refl, (refl, (refl, (refl, (refl, (refl, tt))))))))))))))))))))))))))))))))))
+    (refl, (refl, (refl, (refl, (refl, (refl, (refl, (refl, (refl, (refl, (refl, (refl, (refl, (refl, (refl, (refl, (refl, (refl, (refl, (refl, (refl, (refl, (refl, (refl, (refl, (refl, (refl, (refl, (refl, (refl, (refl, (refl, (refl, (refl, (refl, (refl, (refl, (refl, (refl, tt)))))))))))))))))))))))))))))))))))))))

@@ -1,15 +1,16 @@
 -- Document 01, "Matrix record" and "The words": the elements of a matrix record, the record of elements, the real matrix made of them, and the heard
 -- byte. Assumes nothing.
 use Prim.Native.Nat.{ℕ, zero, suc, _+_, _-_, _*_, _/_, _%_, _^_}
-use mathlib.Core.Bool.{Bool, _&&_, cond}
+use mathlib.Core.Bool.{Bool, cond}
 use mathlib.Core.List.{List}
 use lib.Dec.{ltb, eqb}
-use lib.IntN.{ℤ, negℤ}
+use lib.IntN.{ℤ, pos, negℤ}
 use lib.ListN.{getD}
-use Rattle.integers.specs.Matrix.{Matrix, isZero}
-use Rattle.lists.specs.Lists.{tabulate, allBelow}
+use lib.Signed.{ltZ}
+use Rattle.integers.specs.Matrix.{Matrix}
+use Rattle.lists.specs.Lists.{tabulate}
 use Rattle.words.specs.Words.{int16, int16Byte}
-use Rattle.refusals.specs.Refusals.{silent, failsIf}
+use Rattle.refusals.specs.Refusals.{noneHeard, failsIf}
 
 -- the tag (document 01's kind byte) and the length of a matrix record
 abbrev pub matrixTag : ℕ
@@ -36,26 +37,24 @@ realEntry rec i j =
     (cond (ltb j 8) (partOf rec (i % 8 * 8 + j % 8) 0) (negℤ (partOf rec (i % 8 * 8 + j % 8) 1)))
     (cond (ltb j 8) (partOf rec (i % 8 * 8 + j % 8) 1) (partOf rec (i % 8 * 8 + j % 8) 0))
 
--- an element and all 64 elements are zero
-unfoldable pub zeroElement : List ℕ → ℕ → Bool
-zeroElement rec e = isZero (partOf rec e 0) && isZero (partOf rec e 1)
+-- ---- what the antennas heard: document 02, U3
 
-unfoldable pub allZero : List ℕ → Bool
-allZero rec = allBelow 64 (zeroElement rec)
+-- "Antenna k now counts as heard when the real part of element (k, k) is above 16"
+abbrev pub heardAbove : ℕ
+heardAbove = 16
 
--- column k of the complex matrix is zero
-unfoldable pub zeroColumn : List ℕ → ℕ → Bool
-zeroColumn rec k = allBelow 8 (λ i. zeroElement rec (8 * i + k))
+unfoldable pub antennaHeard : List ℕ → ℕ → Bool
+antennaHeard rec k = ltZ (pos heardAbove) (partOf rec (8 * k + k) 0)
 
--- the bits of the heard byte below bit k: bit k, of value 2^k, is set when column k has an element other than zero
+-- the bits of the heard byte below bit k: bit k, of value 2^k, is set when antenna k is heard
 unfoldable pub heardBelow : List ℕ → ℕ → ℕ
 heardBelow rec zero = 0
-heardBelow rec (suc k) = heardBelow rec k + cond (zeroColumn rec k) 0 (2 ^ k)
+heardBelow rec (suc k) = heardBelow rec k + cond (antennaHeard rec k) (2 ^ k) 0
 
 -- the heard byte
 abbrev pub heardByte : List ℕ → ℕ
 heardByte rec = heardBelow rec 8
 
--- 4: all 64 elements zero
+-- 4: "no antenna is heard"
 abbrev pub matrixTest : List ℕ → ℕ
-matrixTest rec = failsIf (allZero rec) silent
+matrixTest rec = failsIf (eqb (heardByte rec) 0) noneHeard

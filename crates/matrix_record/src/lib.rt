@@ -4,12 +4,15 @@ ghost use mathlib.Core.Path.{_≡_};
 ghost use Prim.Native.Nat.{_<_, _≤_};
 ghost use lib.Signed.{mag};
 ghost use lib.ListN.{length};
-ghost use Rattle.matrix_record.specs.MatrixRecord.{matrixBytes, partOf, realEntry, zeroElement, allZero, zeroColumn, heardByte};
+ghost use Rattle.matrix_record.specs.MatrixRecord.{matrixBytes, partOf, realEntry, antennaHeard, heardByte};
 
 // The first byte of a matrix record, and its length.
 pub const TAG: u8 = 1;
 
 pub const BYTES: usize = 257;
+
+// An antenna is heard when its real part on the diagonal is above this. A loose plug leaves one or two.
+const HEARD_ABOVE: i32 = 16;
 
 // The real (q is 0) or imaginary (q is 1) part of element e.
 fn part(bytes: &[u8], e: usize, q: usize) -> i32
@@ -41,48 +44,15 @@ pub fn real_entry(bytes: &[u8], i: usize, j: usize) -> i32
     }
 }
 
-// Whether element e is zero.
-fn zero_element(bytes: &[u8], e: usize) -> bool
-    requires { ⌜ (length (now bytes) ≡ matrixBytes) × (e < 64) ⌝ }
-    ensures { λ r. ⌜ r ≡ zeroElement (now (bytes .entry)) e ⌝ }
-{
-    if part(bytes, e, 0) != 0 {
-        return false;
-    }
-    part(bytes, e, 1) == 0
-}
-
-// Whether all 64 elements are zero.
-pub fn all_zero(bytes: &[u8]) -> bool
-    requires { ⌜ length (now bytes) ≡ matrixBytes ⌝ }
-    ensures { λ r. ⌜ r ≡ allZero (now (bytes .entry)) ⌝ }
-{
-    let mut e = 0;
-    while e < 64 {
-        if !zero_element(bytes, e) {
-            return false;
-        }
-        e += 1;
-    }
-    true
-}
-
-// Whether all elements of column k are zero.
-fn zero_column(bytes: &[u8], k: usize) -> bool
+// Whether antenna k is heard, by the real part of element (k, k).
+fn antenna_heard(bytes: &[u8], k: usize) -> bool
     requires { ⌜ (length (now bytes) ≡ matrixBytes) × (k < 8) ⌝ }
-    ensures { λ r. ⌜ r ≡ zeroColumn (now (bytes .entry)) k ⌝ }
+    ensures { λ r. ⌜ r ≡ antennaHeard (now (bytes .entry)) k ⌝ }
 {
-    let mut i = 0;
-    while i < 8 {
-        if !zero_element(bytes, 8 * i + k) {
-            return false;
-        }
-        i += 1;
-    }
-    true
+    part(bytes, 8 * k + k, 0) > HEARD_ABOVE
 }
 
-// The heard byte: bit k is set when column k has an element other than zero.
+// The heard byte: bit k is set when antenna k is heard.
 pub fn heard_byte(bytes: &[u8]) -> u8
     requires { ⌜ length (now bytes) ≡ matrixBytes ⌝ }
     ensures { λ r. ⌜ r ≡ heardByte (now (bytes .entry)) ⌝ }
@@ -91,7 +61,7 @@ pub fn heard_byte(bytes: &[u8]) -> u8
     let mut bit: u32 = 1;
     let mut k = 0;
     while k < 8 {
-        if !zero_column(bytes, k) {
+        if antenna_heard(bytes, k) {
             sum += bit;
         }
         bit = bit * 2;

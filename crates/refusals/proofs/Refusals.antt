@@ -19,7 +19,16 @@ pub first-none : (n rest : ℕ) → first n rest ≡ 0 → (n ≡ 0) × (rest �
 first-none zero rest h = (refl, h)
 first-none (suc n) rest h = absurd (omega arith)
 
--- and a test that yields 0 is passed
+-- where the first that fails has a number that this test does not give, this one is passed
+pub first-past : (n rest m : ℕ) → (n ≡ suc m → ⊥) → first n rest ≡ suc m → (n ≡ 0) × (rest ≡ suc m)
+first-past zero rest m f h = (refl, h)
+first-past (suc n) rest m f h = absurd (f h)
+
+pub if-other : (t : Bool) (n m : ℕ) → (n ≡ suc m → ⊥) → failsIf t n ≡ suc m → ⊥
+if-other true n m f h = f h
+if-other false n m f h = omega arith
+
+-- a test that yields 0 is passed
 pub if-passed : (t : Bool) (n : ℕ) → failsIf t (suc n) ≡ 0 → t ≡ false
 if-passed true n h = absurd (omega arith)
 if-passed false n h = refl
@@ -46,6 +55,17 @@ unfolding headerTest
 header-passes tag size rec h =
     let a : eqb (length rec) 0 ≡ false = ne-eqb (length rec) 0 (λ e. omega (arith, h .sized)) in
     simp (a, eq-eqb _ _ (h .tagged), eq-eqb _ _ (h .sized))
+
+-- no other number than 1 and 2
+pub header-number : (tag size : ℕ) (rec : List ℕ) → headerTest tag size rec ≤ 2
+unfolding headerTest
+header-number tag size rec = go (eqb (length rec) 0) (eqb (getD rec 0 0) tag) (eqb (length rec) size)
+  where
+    go : (a b c : Bool) → first (failsIf a 1) (first (failsUnless b 1) (failsUnless c 2)) ≤ 2
+    go true b c = omega arith
+    go false false c = omega arith
+    go false true false = omega arith
+    go false true true = omega arith
 
 -- ---- a buffer
 

@@ -21,9 +21,9 @@ wrongLength = 2
 abbrev pub shortWorkspace : ℕ
 shortWorkspace = 3
 
--- nothing was heard
-abbrev pub silent : ℕ
-silent = 4
+-- no antenna is heard (document 02, U3)
+abbrev pub noneHeard : ℕ
+noneHeard = 4
 
 -- turn number above 120
 abbrev pub noSuchTurn : ℕ

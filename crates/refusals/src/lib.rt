@@ -9,7 +9,7 @@ pub const WRONG_LENGTH: u8 = 2;
 
 pub const SHORT_WORKSPACE: u8 = 3;
 
-pub const SILENT: u8 = 4;
+pub const NONE_HEARD: u8 = 4;
 
 pub const NO_SUCH_TURN: u8 = 5;
 

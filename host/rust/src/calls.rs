@@ -12,7 +12,8 @@ use crate::refusal::Refusal;
 pub struct Loaded {
     /// The turn number to hand to the next call: 0.
     pub turn: u32,
-    /// Bit k is set when column k of the complex matrix has an element other than zero.
+    /// Bit k is set when antenna k was heard: when the real part of element (k, k) of the complex
+    /// matrix is above [`HEARD_ABOVE`](crate::HEARD_ABOVE). It is never 0.
     pub heard: u8,
 }
 
@@ -50,7 +51,8 @@ pub struct Restored {
 #[derive(Clone, Copy, Debug, PartialEq, Eq)]
 #[non_exhaustive]
 pub struct Factored {
-    /// Bit k is set when column k of the complex matrix has an element other than zero.
+    /// Bit k is set when antenna k was heard: when the real part of element (k, k) of the complex
+    /// matrix is above [`HEARD_ABOVE`](crate::HEARD_ABOVE). It is never 0.
     pub heard: u8,
     /// The clamps counted: 0 on both sides.
     pub clamps: Clamps,
@@ -59,18 +61,19 @@ pub struct Factored {
 /// Fills the area's 512 words from a matrix record.
 ///
 /// Refuses, in this order, with [`Refusal::WrongKind`], [`Refusal::WrongLength`],
-/// [`Refusal::AreaTooShort`], [`Refusal::AllZero`].
+/// [`Refusal::AreaTooShort`], [`Refusal::NoneHeard`].
 ///
 /// ```
 /// let mut record = [0; hubqr::MATRIX_RECORD_BYTES];
 /// record[0] = hubqr::KIND_MATRIX;
 /// let mut area = [0; hubqr::AREA_WORDS];
-/// assert_eq!(hubqr::load(&record, &mut area), Err(hubqr::Refusal::AllZero));
+/// record[2] = 16; // the real part of element (0, 0)
+/// assert_eq!(hubqr::load(&record, &mut area), Err(hubqr::Refusal::NoneHeard));
 ///
-/// record[2] = 1; // the real part of element (0, 0)
+/// record[2] = 17;
 /// let loaded = hubqr::load(&record, &mut area)?;
 /// assert_eq!((loaded.turn, loaded.heard), (0, 1));
-/// assert_eq!(area[0], 8192);
+/// assert_eq!(area[0], 17 * 8192);
 /// # Ok::<(), hubqr::Refusal>(())
 /// ```
 pub fn load(record: &[u8], area: &mut [i32]) -> Result<Loaded, Refusal> {
@@ -174,7 +177,7 @@ pub fn read(record: &[u8], area: &mut [i32]) -> Result<Restored, Refusal> {
 /// Does [`load`], all turns and [`fetch`] in one call. R and Q are left in the area as well.
 ///
 /// Refuses, in this order, with [`Refusal::WrongKind`], [`Refusal::WrongLength`],
-/// [`Refusal::AreaTooShort`], [`Refusal::BufferTooShort`], [`Refusal::AllZero`].
+/// [`Refusal::AreaTooShort`], [`Refusal::BufferTooShort`], [`Refusal::NoneHeard`].
 ///
 /// ```
 /// let mut area = [0; hubqr::AREA_WORDS];

@@ -11,9 +11,14 @@ use crate::{ANTENNAS, SUM_WORDS};
 /// 65,536 times the count of snapshots. The real and the imaginary part are worked each by itself:
 /// divided, rounded toward zero, and clamped at 32,767 from above alone; -32,768 can stand. With
 /// samples and elements both read as Q1.15, an element is half the mean of the products. For
-/// snapshots added up from none, element (j, i) is the conjugate of element (i, j). Quiet samples
-/// give elements of 0; a record that has no other is written all the same, and `load` and `whole`
-/// refuse it with [`Refusal::AllZero`].
+/// snapshots added up from none, element (j, i) is the conjugate of element (i, j).
+///
+/// `load` and `whole` count antenna k as heard when the real part of element (k, k) is above
+/// [`HEARD_ABOVE`](crate::HEARD_ABOVE), 16. For snapshots added up from none, that is when the mean
+/// of x^2 + y^2 over its samples x + y i is at least 17 * 65,536 = 1,114,112, a root mean square
+/// magnitude of 1,055.5 or about 30 dB under 32,768: an antenna is heard with samples of magnitude
+/// 1,056, and not with samples of magnitude 1,055. A record in which all antennas are quieter is
+/// written all the same; `load` and `whole` refuse it with [`Refusal::NoneHeard`].
 ///
 /// A refused call changes neither the sums nor the buffer.
 ///

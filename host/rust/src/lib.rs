@@ -6,6 +6,11 @@
 //! real part and a 16-bit imaginary part, high byte first. They are Q1.15: the whole number a
 //! stands for a / 32768. Column k belongs to antenna k.
 //!
+//! Antenna k is **heard** when the real part of element (k, k) is above [`HEARD_ABOVE`]. Nothing else
+//! of the matrix counts, neither the imaginary parts nor the elements off the diagonal, and a
+//! negative real part is not above 16. An antenna that was not heard is factored like the others. A
+//! matrix in which none was heard is refused with [`Refusal::NoneHeard`], whatever else it holds.
+//!
 //! The **area** has 512 words of 32 bits, 16 rows of 32 columns, in which the matrix is worked as a
 //! real one of 16 by 16. Once all 120 turns (rotations) are made, word (i, j) of R is
 //! `area[32 * i + j]` with [`R_ONE`] for one, and word (i, j) of Q is `area[32 * j + 16 + i]` with
@@ -60,7 +65,7 @@
 //!
 //! ```
 //! use hubqr::{Covariance, Sample, ANTENNAS};
-//! # let snapshots = [[Sample { re: 300, im: -400 }; ANTENNAS]; 2];
+//! # let snapshots = [[Sample { re: 3000, im: -4000 }; ANTENNAS]; 2];
 //!
 //! let mut covariance = Covariance::new();
 //! for snapshot in snapshots {
@@ -68,7 +73,8 @@
 //! }
 //! let mut record = [0; hubqr::MATRIX_RECORD_BYTES];
 //! covariance.write(&mut record)?; // for `whole` or `load`
-//! # assert_eq!(record[..5], [1, 0, 3, 0, 0]);
+//! # assert_eq!(record[..5], [1, 1, 125, 0, 0]);
+//! # assert_eq!(hubqr::load(&record, &mut [0; hubqr::AREA_WORDS])?.heard, 0xff);
 //! # Ok::<(), hubqr::Refusal>(())
 //! ```
 #![no_std]
@@ -121,6 +127,9 @@ pub const AREA_WORDS: usize = 512;
 pub const TURNS: u32 = 120;
 /// Antennas of a hub, and so samples of a snapshot.
 pub const ANTENNAS: usize = 8;
+/// An antenna is heard when its real part on the diagonal is above this: a loose plug leaves a part
+/// of one or two.
+pub const HEARD_ABOVE: i16 = 16;
 /// The most snapshots that are added up.
 pub const SNAPSHOTS_MAX: u32 = 4096;
 /// Sums that snapshots add up to: two for each of the 64 elements of the matrix.

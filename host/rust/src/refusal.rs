@@ -42,7 +42,7 @@ refusals! {
     WrongKind = 1, "the record is empty or its kind byte is not the one expected";
     WrongLength = 2, "the record's length is not 257 bytes for a matrix or 2,049 bytes for a result";
     AreaTooShort = 3, "the area has fewer than 512 words";
-    AllZero = 4, "all 64 elements of the matrix are zero";
+    NoneHeard = 4, "no antenna was heard: the real part of every diagonal element is 16 or less";
     NoSuchTurn = 5, "the turn number is above 120";
     Unfinished = 6, "the turn number is under 120, so the result is not finished";
     BufferTooShort = 7, "the buffer has fewer than 2,049 bytes for a result \

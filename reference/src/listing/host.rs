@@ -21,7 +21,8 @@ impl Host {
         self.written += "\n";
     }
 
-    pub fn load(&mut self, record: &[u8], area: &mut [i32]) {
+    /// Answers the refusal number, or 0.
+    pub fn load(&mut self, record: &[u8], area: &mut [i32]) -> u8 {
         let LoadReply {
             number,
             turn,
@@ -33,6 +34,7 @@ impl Host {
             area.len(),
             digest::of_words(area)
         ));
+        number
     }
 
     /// Answers the next turn number.

@@ -9,6 +9,14 @@ pub enum Sample {
     /// Element (0, 0) is 1, all else is 0.
     Single,
     Lowest,
+    /// Real parts 16 on the diagonal, which no antenna is heard with.
+    Hum,
+    /// Real parts 17 on the diagonal, which every antenna is heard with.
+    Quietest,
+    /// Real parts 16 on the diagonal but antenna 5's, which is 17.
+    OneQuietest,
+    /// Real parts -17 on the diagonal.
+    Negative,
 }
 
 /// A record, and one byte behind it.
@@ -20,14 +28,24 @@ impl Sample {
             Sample::Full => "A matrix with parts of all sizes",
             Sample::Single => "A single element 1",
             Sample::Lowest => "All parts -32768",
+            Sample::Hum => "Diagonal real parts 16, all other parts 32767",
+            Sample::Quietest => "Diagonal real parts 17, all other parts 32767",
+            Sample::OneQuietest => {
+                "Diagonal real parts 16 but antenna 5's 17, all other parts 32767"
+            }
+            Sample::Negative => "Diagonal real parts -17, all other parts 32767",
         }
     }
 
     pub fn bytes(self) -> Bytes {
         match self {
             Sample::Full => full(),
-            Sample::Single => of_matrix(|i, j| Complex::new(i16::from(i + j == 0), 0)),
-            Sample::Lowest => of_matrix(|_, _| Complex::new(i16::MIN, i16::MIN)),
+            Sample::Single => of_matrix(everywhere(0).with_diagonal_at(0, 1)),
+            Sample::Lowest => of_matrix(everywhere(i16::MIN)),
+            Sample::Hum => loud_but_for_the_diagonal(|_| 16),
+            Sample::Quietest => loud_but_for_the_diagonal(|_| 17),
+            Sample::OneQuietest => loud_but_for_the_diagonal(|k| if k == 5 { 17 } else { 16 }),
+            Sample::Negative => loud_but_for_the_diagonal(|_| -17),
         }
     }
 }
@@ -39,8 +57,16 @@ fn full() -> Bytes {
     bytes
 }
 
-fn of_matrix(element: impl FnMut(usize, usize) -> Complex) -> Bytes {
+fn everywhere(part: i16) -> Matrix {
+    Matrix::from_fn(|_, _| Complex::new(part, part))
+}
+
+fn loud_but_for_the_diagonal(re: impl FnMut(usize) -> i16) -> Bytes {
+    of_matrix(everywhere(i16::MAX).with_diagonal(re))
+}
+
+fn of_matrix(matrix: Matrix) -> Bytes {
     let mut bytes = [0; MATRIX_RECORD + 1];
-    bytes[..MATRIX_RECORD].copy_from_slice(&write_matrix(&Matrix::from_fn(element)));
+    bytes[..MATRIX_RECORD].copy_from_slice(&write_matrix(&matrix));
     bytes
 }

@@ -5,6 +5,7 @@
 #![allow(dead_code)]
 
 mod engine;
+pub mod heard;
 pub mod sums;
 mod twin;
 pub mod words;

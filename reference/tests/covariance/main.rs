@@ -6,6 +6,7 @@ mod common;
 mod handed_in;
 mod lists;
 mod numbers;
+mod quiet;
 mod quotients;
 mod scenes;
 mod snapshots;

@@ -38,9 +38,10 @@ struct Scene {
 }
 
 impl Scene {
-    /// A few waves, weak enough to fit into 16 bits together with the noise.
+    /// A few waves, weak enough to fit into 16 bits together with the noise, and each strong enough
+    /// to be heard.
     fn random(random: &mut Random) -> Self {
-        let strongest = random.choose(&[1_500, 4_000, 7_000]);
+        let strongest = random.choose(&[2_500, 4_000, 7_000]);
         let mut wave = || Wave {
             amplitude: random.between(strongest / 2, strongest),
             step: random.below(CIRCLE),

@@ -154,8 +154,8 @@ fn clauses_and_rows_that_are_gone() {
     refuses("rows", "every_marked_case_changed", |copy| {
         copy.without(&format!("{laws}/Marked.antt"), "∷ rotates");
     });
-    refuses("heard", "every_record_is_heard", |copy| {
-        copy.without(&format!("{laws}/Silence.antt"), "pub heard :");
+    refuses("heard", "refused_load_is_heard", |copy| {
+        copy.without(&format!("{laws}/Silence.antt"), "pub load-heard :");
     });
     refuses("tail", "word_511_kept_by_read", |copy| {
         copy.without(&format!("{laws}/Tails.antt"), "pub read :");

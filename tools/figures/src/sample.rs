@@ -36,6 +36,6 @@ fn errors(matrix: &Matrix) -> Errors {
     let mut area = [0; hubqr::AREA_WORDS];
     let mut buffer = [0; hubqr::RESULT_RECORD_BYTES];
     hubqr::whole(&write_matrix(matrix), &mut area, &mut buffer)
-        .expect("only zeros are refused, and no kind draws them");
+        .expect("each kind and each edge has an antenna that is heard");
     Errors::of(&matrix.to_real(), &WorkArea::from_words(&area))
 }

@@ -23,8 +23,8 @@ pub fn check(matrix: &OsStr, result: &OsStr) -> Result<Report, Failure> {
         other => return Err(wrong_record(result, &other, "a result record")),
     };
     let matrix = match Record::read(matrix)? {
-        Record::Matrix(found) if found.is_zero() => {
-            let why = refused_with(Refusal::AllZero);
+        Record::Matrix(found) if found.none_heard() => {
+            let why = refused_with(Refusal::NoneHeard);
             let message = format!("{}: {why}", files::shown(matrix));
             return Err(Failure::Input(message));
         }

@@ -34,6 +34,9 @@ stand in brackets, and blanks then too: (1 + 2i). The parts of a file are of one
                       number, halves away from zero
 A matrix with larger numbers has to be divided by one that brings all of them into this range.
 
+Antenna k counts as heard when the real part of element (k, k) is above 16, in units of 1/32768. A
+matrix in which none is heard is packed with a remark, since the engine refuses it.
+
 OUT.bin is a new file or an existing one, which keeps its permissions. A link, a device or a folder is
 refused, and so are a read-only file and IN.txt itself. For standard output give '-'.
 
@@ -44,8 +47,9 @@ pub const SHOW: &str = "\
 Usage: record show FILE
 
 Prints a record readably. The kind byte says what it is:
-  matrix record    the elements in units of 1/32768 and the antennas that were heard; a row has two
-                   lines. 'record pack' makes the same record of this text.
+  matrix record    the elements in units of 1/32768 and which antennas were heard. Antenna k was
+                   heard when the real part of element (k, k) is above 16. A row has two lines.
+                   'record pack' makes the same record of this text.
   result record    R in steps of the 16-bit input (word / 2^13) and Q in parts of one (word / 2^30),
                    16 by 16 each, eight columns beside each other; a word that is 0 is printed as a
                    bare 0.
@@ -64,5 +68,8 @@ MATRIX, and shows each figure against its limit:
   every two columns of R         their sum of products within 2^44 of 2^26 times that of the input's
   R                              0 under the diagonal, its first 15 diagonal words not negative
 
-Exit status: 0 when all are within their limits, 1 when one is not or a file is no such record.
+A matrix in which no antenna was heard has no result, since the engine refuses it.
+
+Exit status: 0 when all are within their limits, 1 when one is not, when a file is no such record or
+when the engine refuses the matrix.
 ";

@@ -5,6 +5,10 @@ pub const SIZE: usize = 8;
 pub const KIND: u8 = 1;
 pub const BYTES: usize = 1 + 4 * SIZE * SIZE;
 
+/// What a diagonal element's real part has to be above for its antenna to count as heard: a loose
+/// plug leaves a part of one or two.
+const HEARD_ABOVE: i16 = 16;
+
 /// An element's parts in units of 1/32768.
 #[derive(Clone, Copy, Debug, PartialEq)]
 pub struct Element {
@@ -40,17 +44,15 @@ impl Matrix {
         record
     }
 
-    pub fn is_zero(&self) -> bool {
+    /// Whether no antenna was heard, for which the engine refuses the matrix.
+    pub fn none_heard(&self) -> bool {
         self.heard() == 0
     }
 
-    /// Bit k is set when column k has an element other than zero.
+    /// Bit k is set when the real part of element (k, k) is above `HEARD_ABOVE`.
     pub fn heard(&self) -> u8 {
-        let column_heard = |k: &usize| {
-            let mut column = self.rows.iter().map(|row| row[*k]);
-            column.any(|element| (element.real, element.imaginary) != (0, 0))
-        };
-        (0..SIZE).filter(column_heard).map(|k| 1 << k).sum()
+        let antenna_heard = |k: &usize| self.rows[*k][*k].real > HEARD_ABOVE;
+        (0..SIZE).filter(antenna_heard).map(|k| 1 << k).sum()
     }
 
     /// Entry (i, j) of the matrix made real, 16 by 16: real parts upper left and lower right,

@@ -24,8 +24,8 @@ pub fn pack(input: &OsStr, output: &OsStr) -> Result<Report, Failure> {
         files::replace(output, &record)?;
         Report::text(confirmation(output, &matrix), true)
     };
-    if matrix.is_zero() {
-        report.remark = Some(refused_with(Refusal::AllZero));
+    if matrix.none_heard() {
+        report.remark = Some(refused_with(Refusal::NoneHeard));
     }
     Ok(report)
 }

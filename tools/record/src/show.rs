@@ -12,7 +12,7 @@ use crate::{files, Report};
 
 pub fn show(file: &OsStr) -> Result<Report, Failure> {
     match Record::read(file)? {
-        Record::Matrix(matrix) => Ok(Report::text(matrix_text(&matrix), !matrix.is_zero())),
+        Record::Matrix(matrix) => Ok(Report::text(matrix_text(&matrix), !matrix.none_heard())),
         Record::Result(factors) => {
             let in_order = factors.rule_breaks().first().is_none();
             Ok(Report::text(result_text(&factors), in_order))
@@ -31,7 +31,7 @@ pub fn show(file: &OsStr) -> Result<Report, Failure> {
     }
 }
 
-/// Which antennas a heard byte names, in words.
+/// Which antennas a heard byte names and which it does not, in words.
 pub fn antennas(heard: u8) -> String {
     let with_bit = |set: bool| {
         let chosen = (0..8).filter(|k| (heard >> k & 1 == 1) == set);
@@ -42,8 +42,8 @@ pub fn antennas(heard: u8) -> String {
             names.join(" ")
         }
     };
-    let (heard_list, silent_list) = (with_bit(true), with_bit(false));
-    format!("heard antennas: {heard_list} (heard byte {heard:02X}), silent: {silent_list}")
+    let (heard_list, others) = (with_bit(true), with_bit(false));
+    format!("heard antennas: {heard_list} (heard byte {heard:02X}), not heard: {others}")
 }
 
 /// Everything but the elements stands behind '#', so that the text can be packed again. Eight
@@ -53,8 +53,8 @@ fn matrix_text(matrix: &Matrix) -> String {
         "# matrix record: 8 by 8 elements in units of 1/32768, a column for each antenna\n# {}\n",
         antennas(matrix.heard())
     );
-    if matrix.is_zero() {
-        text += &format!("# {}\n", refused_with(Refusal::AllZero));
+    if matrix.none_heard() {
+        text += &format!("# {}\n", refused_with(Refusal::NoneHeard));
     }
     for (i, row) in matrix.rows.iter().enumerate() {
         let elements = row.map(element_text);

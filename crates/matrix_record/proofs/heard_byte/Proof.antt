@@ -8,9 +8,8 @@ use native.Mathlib.Nat.{pow-succ'}
 use native.Mathlib.Numerals.{add-one}
 use native.Mathlib.Omega.{arith}
 use borrow.Author.Needs.{needs}
-use borrow.Author.Tests.{not-true, not-false}
 use lib.Pow.{pow-mono}
-use Rattle.matrix_record.specs.MatrixRecord.{zeroColumn, heardBelow}
+use Rattle.matrix_record.specs.MatrixRecord.{antennaHeard, heardBelow}
 use Rattle.matrix_record.proofs.heard_byte.Statement.{statement}
 use Rattle.matrix_record.proofs.heard_byte.Tie as tie
 
@@ -24,12 +23,12 @@ record Hearing (bytes : List ℕ) (k bit sum : ℕ) : Type 0 where
 bound : {bytes : List ℕ} {k bit sum : ℕ} → Hearing bytes k bit sum → bit ≤ 256
 bound h = omega (arith, pow-mono (h .within))
 
-at-most : (b : Bool) (x : ℕ) → cond b 0 x ≤ x
+at-most : (b : Bool) (x : ℕ) → cond b x 0 ≤ x
 at-most true x = omega arith
 at-most false x = omega arith
 
--- one more column, which is zero (b) or not
-more : {bytes : List ℕ} {k bit sum next : ℕ} → Hearing bytes k bit sum → k < 8 → (b : Bool) → zeroColumn bytes k ≡ b → next ≡ sum + cond b 0 bit → Hearing bytes (k + 1) (bit * 2) next
+-- one more antenna, which is heard (b) or not
+more : {bytes : List ℕ} {k bit sum next : ℕ} → Hearing bytes k bit sum → k < 8 → (b : Bool) → antennaHeard bytes k ≡ b → next ≡ sum + cond b bit 0 → Hearing bytes (k + 1) (bit * 2) next
 unfolding heardBelow
 more {bytes} {k} {bit} {sum} {next} h l b z e =
     record {
@@ -49,8 +48,8 @@ loop-holds : tie.Need-loop-holds Inv-loop μ-loop
 unfolding heardBelow
 loop-holds c = record { within = omega arith; weight = refl; is = refl; below = omega arith }
 
-zero-column-requires : tie.Need-zero-column-requires Inv-loop μ-loop
-zero-column-requires c κs = search needs
+antenna-heard-requires : tie.Need-antenna-heard-requires Inv-loop μ-loop
+antenna-heard-requires c κs = search needs
 
 add-sum : tie.Need-add-sum Inv-loop μ-loop
 add-sum c = omega (arith, bound (c .before .before .before .loop .inv))
@@ -67,8 +66,8 @@ loop-less c = omega arith
 loop-again : tie.Need-loop-again Inv-loop μ-loop
 loop-again c =
     ⊎-elim
-    (λ w. more (c .before .before .before .loop .inv) (c .before .before .loop-test .taken) false (sym (c .before .zero-column .ensures) ∙ not-true _ (w .0 .taken)) (w .1))
-    (λ w. more (c .before .before .before .loop .inv) (c .before .before .loop-test .taken) true (sym (c .before .zero-column .ensures) ∙ not-false _ (w .0 .left)) (omega (arith, w .1)))
+    (λ w. more (c .before .before .before .loop .inv) (c .before .before .loop-test .taken) true (sym (c .before .antenna-heard .ensures) ∙ w .0 .taken) (w .1))
+    (λ w. more (c .before .before .before .loop .inv) (c .before .before .loop-test .taken) false (sym (c .before .antenna-heard .ensures) ∙ w .0 .left) (omega (arith, w .1)))
     (c .if1 .came)
 
 cast-result : tie.Need-cast-result Inv-loop μ-loop
@@ -84,7 +83,7 @@ heard-byte-spec =
     Inv-loop
     μ-loop
     loop-holds
-    zero-column-requires
+    antenna-heard-requires
     add-sum
     mul-bit
     add-k

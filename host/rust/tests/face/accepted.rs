@@ -1,8 +1,6 @@
 //! Accepted calls: replies, and that instalments, threads and a detour over records make no difference.
-use crate::lent::{matrix, mixed_matrix, Lent};
+use crate::lent::{matrix, mixed_matrix, Lent, MIXED_HEARD, NO_CLAMPS};
 use hubqr::{Clamps, AREA_WORDS, Q_ONE, RESULT_RECORD_BYTES, R_ONE, TURNS};
-
-const NO_CLAMPS: Clamps = Clamps { r: 0, q: 0 };
 
 /// Load, Runs of one allowance, Fetch.
 fn in_instalments(record: &[u8], allowance: u16) -> Lent {
@@ -25,24 +23,11 @@ fn the_archive_is_of_this_version() {
 }
 
 #[test]
-fn load_answers_turn_0_and_who_was_heard() {
-    for column in 0..8 {
-        let record = matrix(|i, j| (i16::from(i == 3 && j == column), 0));
-        let mut lent = Lent::new();
-        let loaded = hubqr::load(&record, &mut lent.area).unwrap();
-        assert_eq!((loaded.turn, loaded.heard), (0, 1 << column));
-        assert!(lent.tails_untouched());
-    }
-}
-
-#[test]
 fn load_scales_and_places_the_parts() {
-    let record = matrix(|i, j| {
-        if (i, j) == (2, 5) {
-            (1, -32768)
-        } else {
-            (0, 0)
-        }
+    let record = matrix(|i, j| match (i, j) {
+        (2, 5) => (1, -32768),
+        (7, 7) => (17, 0),
+        _ => (0, 0),
     });
     let mut area = [7; AREA_WORDS];
     hubqr::load(&record, &mut area).unwrap();
@@ -54,6 +39,8 @@ fn load_scales_and_places_the_parts() {
     expected[32 * 10 + 13] = R_ONE / 32768;
     expected[32 * 10 + 5] = -R_ONE;
     expected[32 * 2 + 13] = R_ONE;
+    expected[32 * 7 + 7] = 17 * (R_ONE / 32768);
+    expected[32 * 15 + 15] = 17 * (R_ONE / 32768);
     assert_eq!(area, expected);
 }
 
@@ -62,7 +49,7 @@ fn instalments_make_no_difference() {
     let record = mixed_matrix();
     let mut whole = Lent::new();
     let factored = hubqr::whole(&record, &mut whole.area, &mut whole.buffer).unwrap();
-    assert_eq!((factored.heard, factored.clamps), (0xff, NO_CLAMPS));
+    assert_eq!((factored.heard, factored.clamps), (MIXED_HEARD, NO_CLAMPS));
     assert!(whole.tails_untouched());
     for allowance in [1, 7, 60, 119, 120, 121, u16::MAX] {
         assert_eq!(in_instalments(&record, allowance), whole, "{allowance}");

@@ -1,8 +1,9 @@
 //! Snapshots added up and written: sums, parts and refusals.
+use crate::heard::hears;
 use crate::lent::{matrix, Lent};
 use hubqr::Refusal::{self, *};
 use hubqr::{ffi, Covariance, Sample};
-use hubqr::{ANTENNAS, KIND_RESULT, MATRIX_RECORD_BYTES, SNAPSHOTS_MAX, SUM_WORDS};
+use hubqr::{ANTENNAS, HEARD_ABOVE, KIND_RESULT, MATRIX_RECORD_BYTES, SNAPSHOTS_MAX, SUM_WORDS};
 use std::mem::{offset_of, size_of};
 
 /// A sum may be this far from 0 for each snapshot.
@@ -291,4 +292,55 @@ fn a_written_record_is_loaded_and_factored() {
     let factored = hubqr::whole(&record, &mut lent.area, &mut lent.buffer).unwrap();
     assert_eq!((factored.heard, lent.buffer[0]), (0xff, KIND_RESULT));
     assert!(lent.tails_untouched());
+}
+
+/// The record of the sums is written, and Load and Whole answer this heard byte for it.
+fn heard_in(covariance: &Covariance, heard: u8) {
+    let mut record = [0; MATRIX_RECORD_BYTES];
+    covariance.write(&mut record).unwrap();
+    hears(&record, heard);
+}
+
+/// The record of these snapshots, likewise.
+fn heard_in_all(snapshots: &[[Sample; ANTENNAS]], heard: u8) {
+    let mut covariance = Covariance::new();
+    for &snapshot in snapshots {
+        covariance.add(snapshot).unwrap();
+    }
+    heard_in(&covariance, heard);
+}
+
+/// 256^2 + 1024^2 is 17 * 65,536 = 1,114,112, the mean square from which on an antenna is heard, and
+/// 86^2 + 1052^2 = 1,114,100 is the largest sum of two squares below it.
+#[test]
+fn antennas_are_heard_by_the_mean_square_of_their_samples() {
+    let (just_heard, just_not) = (sample(256, -1024), sample(-1052, 86));
+    let (loud, quiet) = ([just_heard; ANTENNAS], [just_not; ANTENNAS]);
+    heard_in_all(&[[Sample::default(); ANTENNAS]], 0);
+    heard_in_all(&[quiet], 0);
+    heard_in_all(&[loud], 0xff);
+    heard_in_all(&[[sample(0, 1055); ANTENNAS]], 0);
+    heard_in_all(&[[sample(-1056, 0); ANTENNAS]], 0xff);
+    heard_in_all(&[loud, loud], 0xff);
+    heard_in_all(&[loud, loud, quiet], 0);
+    heard_in_all(&[loud, loud, quiet, [sample(0, 1056); ANTENNAS]], 0xff);
+    for k in 0..ANTENNAS {
+        let mut snapshot = quiet;
+        snapshot[k] = just_heard;
+        heard_in_all(&[snapshot], 1 << k);
+    }
+}
+
+/// The edge to the unit. Sum 18 k is the real part of element (k, k), and the next one is imaginary.
+#[test]
+fn antennas_are_heard_by_their_real_sums_on_the_diagonal() {
+    for count in [1, 3, SNAPSHOTS_MAX] {
+        let edge = i64::from(HEARD_ABOVE + 1) * 65536 * i64::from(count);
+        for k in 0..ANTENNAS {
+            heard_in(&with_sum(count, 18 * k, edge), 1 << k);
+            heard_in(&with_sum(count, 18 * k, edge - 1), 0);
+            heard_in(&with_sum(count, 18 * k, -edge), 0);
+            heard_in(&with_sum(count, 18 * k + 1, edge), 0);
+        }
+    }
 }

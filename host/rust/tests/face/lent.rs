@@ -1,5 +1,7 @@
 //! What the tests share: records, and an area and a buffer with something behind what the calls use.
-use hubqr::{AREA_WORDS, KIND_MATRIX, MATRIX_RECORD_BYTES, RESULT_RECORD_BYTES};
+use hubqr::{Clamps, AREA_WORDS, KIND_MATRIX, MATRIX_RECORD_BYTES, RESULT_RECORD_BYTES};
+
+pub const NO_CLAMPS: Clamps = Clamps { r: 0, q: 0 };
 
 /// Lent memory, longer than needed and filled with what no call writes.
 #[derive(Clone, Debug, PartialEq)]
@@ -35,6 +37,14 @@ pub fn matrix(element: impl Fn(usize, usize) -> (i16, i16)) -> Vec<u8> {
     assert_eq!(record.len(), MATRIX_RECORD_BYTES);
     record
 }
+
+/// A matrix record with the same number for every part.
+pub fn equal_parts(part: i16) -> Vec<u8> {
+    matrix(|_, _| (part, part))
+}
+
+/// The heard byte of `mixed_matrix`, whose other antennas have no positive real part on the diagonal.
+pub const MIXED_HEARD: u8 = 0b0101_0100;
 
 /// A matrix without pattern, both ends of the 16-bit range among its parts.
 pub fn mixed_matrix() -> Vec<u8> {

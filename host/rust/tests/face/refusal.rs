@@ -19,8 +19,8 @@ fn each_has_words_of_its_own() {
     let words: HashSet<String> = Refusal::ALL.iter().map(Refusal::to_string).collect();
     assert_eq!(words.len(), Refusal::ALL.len());
     assert_eq!(
-        Refusal::AllZero.to_string(),
-        "all 64 elements of the matrix are zero"
+        Refusal::NoneHeard.to_string(),
+        "no antenna was heard: the real part of every diagonal element is 16 or less"
     );
     assert_eq!(UnknownNumber(0).to_string(), "0 is no refusal number");
 }

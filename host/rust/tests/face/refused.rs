@@ -1,7 +1,7 @@
 //! Refused calls: each call's numbers in the order of its tests, and that nothing lent is changed.
-use crate::lent::{matrix, mixed_matrix, Lent};
+use crate::lent::{equal_parts, mixed_matrix, Lent};
 use hubqr::Refusal::{self, *};
-use hubqr::{AREA_WORDS, KIND_RESULT, RESULT_RECORD_BYTES};
+use hubqr::{AREA_WORDS, KIND_REFUSAL, KIND_RESULT, RESULT_RECORD_BYTES};
 
 /// Makes a call that must be refused, on newly scribbled memory, and looks whether it stayed.
 fn refused<T>(call: impl FnOnce(&mut Lent) -> Result<T, Refusal>, with: Refusal) {
@@ -18,18 +18,30 @@ fn result_with(place: usize, word: i32) -> Vec<u8> {
     record
 }
 
-/// Records that Load and Whole refuse for their kind or their length.
-fn no_matrices() -> [(Vec<u8>, Refusal); 6] {
-    let good = mixed_matrix();
-    let longer = [good.clone(), vec![0]].concat();
-    [
+/// Records that Load and Whole refuse for their kind or their length, those in which no antenna would
+/// be heard among them.
+fn no_matrices() -> Vec<(Vec<u8>, Refusal)> {
+    let mut records = vec![
         (vec![], WrongKind),
         (vec![2], WrongKind),
         (result_with(0, 1), WrongKind),
         (vec![1], WrongLength),
-        (good[..256].to_vec(), WrongLength),
-        (longer, WrongLength),
-    ]
+    ];
+    for matrix in [mixed_matrix(), hum(), silence()] {
+        records.push(([&[KIND_REFUSAL], &matrix[1..]].concat(), WrongKind));
+        records.push((matrix[..256].to_vec(), WrongLength));
+        records.push(([&matrix[..], &[0]].concat(), WrongLength));
+    }
+    records
+}
+
+/// What loose plugs leave: no part is zero, and no antenna is heard.
+fn hum() -> Vec<u8> {
+    equal_parts(2)
+}
+
+fn silence() -> Vec<u8> {
+    equal_parts(0)
 }
 
 #[test]
@@ -38,15 +50,16 @@ fn load_refuses() {
         refused(|lent| hubqr::load(&record, &mut lent.area), number);
         refused(|_| hubqr::load(&record, &mut []), number);
     }
-    let (good, zeros) = (mixed_matrix(), matrix(|_, _| (0, 0)));
-    for record in [&good, &zeros] {
+    for record in [mixed_matrix(), hum(), silence()] {
         refused(
-            |lent| hubqr::load(record, &mut lent.area[..511]),
+            |lent| hubqr::load(&record, &mut lent.area[..511]),
             AreaTooShort,
         );
-        refused(|_| hubqr::load(record, &mut []), AreaTooShort);
+        refused(|_| hubqr::load(&record, &mut []), AreaTooShort);
     }
-    refused(|lent| hubqr::load(&zeros, &mut lent.area), AllZero);
+    for record in [hum(), silence()] {
+        refused(|lent| hubqr::load(&record, &mut lent.area), NoneHeard);
+    }
 }
 
 #[test]
@@ -119,12 +132,13 @@ fn whole_refuses() {
         whole(&record, 0, 0, number);
         whole(&record, 512, 2049, number);
     }
-    let (good, zeros) = (mixed_matrix(), matrix(|_, _| (0, 0)));
-    for record in [&good, &zeros] {
-        whole(record, 511, 0, AreaTooShort);
-        whole(record, 0, 2049, AreaTooShort);
-        whole(record, 512, 2048, BufferTooShort);
-        whole(record, 512, 0, BufferTooShort);
+    for record in [mixed_matrix(), hum(), silence()] {
+        whole(&record, 511, 0, AreaTooShort);
+        whole(&record, 0, 2049, AreaTooShort);
+        whole(&record, 512, 2048, BufferTooShort);
+        whole(&record, 512, 0, BufferTooShort);
     }
-    whole(&zeros, 512, 2049, AllZero);
+    for record in [hum(), silence()] {
+        whole(&record, 512, 2049, NoneHeard);
+    }
 }

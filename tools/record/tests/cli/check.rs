@@ -1,4 +1,6 @@
-use crate::tool::{add_to_word, diagonal_result, matrix_record, worked, Folder, Outcome};
+use crate::tool::{
+    add_to_word, diagonal_result, matrix_record, uniform_record, worked, Folder, Outcome,
+};
 
 fn check(folder: &Folder, matrix: &[u8], result: &[u8]) -> Outcome {
     folder.write("m.bin", matrix);
@@ -20,10 +22,11 @@ const ALL_WITHIN: [&str; 5] = ["within"; 5];
 fn what_the_engine_makes_is_within_its_limits() {
     let folder = Folder::new("check-engine");
     for matrix in [
-        matrix_record(1, (0, 0)),
-        matrix_record(0, (0, -1)),
-        matrix_record(-32768, (-32768, -32768)),
+        matrix_record(17, (0, 0)),
+        matrix_record(17, (0, -1)),
+        matrix_record(32767, (-32768, -32768)),
         matrix_record(12345, (-777, 32767)),
+        uniform_record((32767, -32768)),
     ] {
         let outcome = check(&folder, &matrix, &worked(&matrix));
         assert_eq!((outcome.status, outcome.stderr.as_str()), (0, ""));
@@ -36,8 +39,8 @@ fn what_the_engine_makes_is_within_its_limits() {
 #[test]
 fn the_limits_are_met_exactly() {
     let folder = Folder::new("check-exact");
-    let matrix = matrix_record(5, (0, 0));
-    let exact = diagonal_result(5 << 13, 1 << 30);
+    let matrix = matrix_record(20, (0, 0));
+    let exact = diagonal_result(20 << 13, 1 << 30);
     let outcome = check(&folder, &matrix, &exact);
     assert_eq!(
         (outcome.status, verdicts(&outcome)),
@@ -104,8 +107,8 @@ fn the_columns_of_r_are_compared_in_pairs() {
 #[test]
 fn the_rules_of_r_are_counted() {
     let folder = Folder::new("check-rules");
-    let matrix = matrix_record(5, (0, 0));
-    let mut result = diagonal_result(5 << 13, 1 << 30);
+    let matrix = matrix_record(20, (0, 0));
+    let mut result = diagonal_result(20 << 13, 1 << 30);
     add_to_word(&mut result, 16, 1);
     add_to_word(&mut result, 250, -1);
     let outcome = check(&folder, &matrix, &result);
@@ -120,7 +123,7 @@ fn the_rules_of_r_are_counted() {
     );
     assert_eq!(outcome.status, 1);
 
-    let negative = diagonal_result(-5 << 13, -1 << 30);
+    let negative = diagonal_result(-20 << 13, -1 << 30);
     let outcome = check(&folder, &matrix, &negative);
     assert_eq!(
         verdicts(&outcome),
@@ -138,8 +141,8 @@ fn the_rules_of_r_are_counted() {
 #[test]
 fn a_result_of_another_matrix_is_outside() {
     let folder = Folder::new("check-other");
-    let other = worked(&matrix_record(5, (1, 3)));
-    let outcome = check(&folder, &matrix_record(5, (1, -3)), &other);
+    let other = worked(&matrix_record(20, (1, 3)));
+    let outcome = check(&folder, &matrix_record(20, (1, -3)), &other);
     assert_eq!(verdicts(&outcome)[0], "OUTSIDE");
     assert_eq!(outcome.status, 1);
 }
@@ -147,7 +150,7 @@ fn a_result_of_another_matrix_is_outside() {
 #[test]
 fn one_record_may_come_from_standard_input() {
     let folder = Folder::new("check-standard");
-    let matrix = matrix_record(5, (1, 3));
+    let matrix = matrix_record(20, (1, 3));
     folder.write("m.bin", &matrix);
     let outcome = folder.run_with_input(&["check", "m.bin", "-"], &worked(&matrix));
     assert_eq!(
@@ -161,9 +164,8 @@ fn one_record_may_come_from_standard_input() {
 #[test]
 fn records_of_the_wrong_kind_are_named() {
     let folder = Folder::new("check-kinds");
-    let matrix = matrix_record(5, (1, 3));
+    let matrix = matrix_record(20, (1, 3));
     let result = worked(&matrix);
-    let zeros = matrix_record(0, (0, 0));
     for (first, second, message) in [
         (
             &result,
@@ -179,11 +181,6 @@ fn records_of_the_wrong_kind_are_named() {
             &matrix,
             &vec![3, 4],
             "r.bin is a refusal record, a result record is needed here",
-        ),
-        (
-            &zeros,
-            &result,
-            "m.bin: the engine refuses it with number 4: all 64 elements of the matrix are zero",
         ),
     ] {
         let outcome = check(&folder, first, second);

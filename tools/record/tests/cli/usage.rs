@@ -67,7 +67,7 @@ fn the_version_is_printed() {
 #[test]
 fn a_name_that_begins_with_a_dash_stands_behind_two() {
     let folder = Folder::new("usage-dashes");
-    folder.write("-m.bin", matrix_record(1, (2, 3)));
+    folder.write("-m.bin", matrix_record(20, (2, 3)));
     assert_eq!(folder.run(&["show", "-m.bin"]).status, 2);
     assert_eq!(folder.run(&["show", "--", "-m.bin"]).status, 0);
 }
