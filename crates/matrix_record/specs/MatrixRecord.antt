@@ -1,5 +1,5 @@
--- Document 01, "Matrix record" and "The words": the elements of a matrix record, the record of elements, the real matrix made of them, and the heard
--- byte. Assumes nothing.
+-- Document 01, "Matrix record" and "The words", and document 02, U3: the elements of a matrix record, the record of elements, the real matrix made of
+-- them, and which antennas are heard. Assumes nothing.
 use Prim.Native.Nat.{ℕ, zero, suc, _+_, _-_, _*_, _/_, _%_, _^_}
 use mathlib.Core.Bool.{Bool, cond}
 use mathlib.Core.List.{List}
@@ -37,12 +37,12 @@ realEntry rec i j =
     (cond (ltb j 8) (partOf rec (i % 8 * 8 + j % 8) 0) (negℤ (partOf rec (i % 8 * 8 + j % 8) 1)))
     (cond (ltb j 8) (partOf rec (i % 8 * 8 + j % 8) 1) (partOf rec (i % 8 * 8 + j % 8) 0))
 
--- ---- what the antennas heard: document 02, U3
+-- ---- which antennas are heard
 
--- "Antenna k now counts as heard when the real part of element (k, k) is above 16"
 abbrev pub heardAbove : ℕ
 heardAbove = 16
 
+-- "Antenna k now counts as heard when the real part of element (k, k) is above 16"
 unfoldable pub antennaHeard : List ℕ → ℕ → Bool
 antennaHeard rec k = ltZ (pos heardAbove) (partOf rec (8 * k + k) 0)
 
@@ -55,6 +55,6 @@ heardBelow rec (suc k) = heardBelow rec k + cond (antennaHeard rec k) (2 ^ k) 0
 abbrev pub heardByte : List ℕ → ℕ
 heardByte rec = heardBelow rec 8
 
--- 4: "no antenna is heard"
+-- 4: "no antenna is heard", so that no bit would be set
 abbrev pub matrixTest : List ℕ → ℕ
 matrixTest rec = failsIf (eqb (heardByte rec) 0) noneHeard

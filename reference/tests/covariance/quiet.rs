@@ -13,7 +13,7 @@ use crate::common::Case;
 /// The squares of its parts add up to 17 times 65,536.
 const JUST_HEARD: Complex = Complex::new(1024, 256);
 
-/// The next quieter sample.
+/// Quieter by a step of one part.
 const JUST_NOT: Complex = Complex::new(1024, 255);
 
 /// The record that both sides write of a list of snapshots.
