@@ -28,7 +28,7 @@ use Rattle.covariance_laws.specs.Snapshots.{sampleAt, Parts16, termAt, s
 use Rattle.covariance_laws.specs.Accumulated.{addedOf}
 use Rattle.covariance_laws.specs.WrittenMatrix.{recordWritten}
 use Rattle.covariance_laws.specs.Hermitian.{Hermitian, AllHermitian}
-use Rattle.covariance_laws.specs.Power.{powerOf}
+use Rattle.covariance_laws.specs.HeardByPower.{powerOf}
 use Rattle.covariance_laws.proofs.Accumulated.{accumulated}
 use Rattle.covariance_laws.proofs.Terms.{Sample16}
 use Rattle.covariance_laws.proofs.WrittenMatrix.{written-matrix}

@@ -4,5 +4,5 @@ pub mod SumsAfter
 pub mod Accumulated
 pub mod WrittenMatrix
 pub mod Hermitian
-pub mod Power
+pub mod HeardByPower
 pub mod Possible

@@ -3,5 +3,5 @@ pub mod Snapshots
 pub mod Accumulated
 pub mod WrittenMatrix
 pub mod Hermitian
-pub mod Power
+pub mod HeardByPower
 pub mod Reckoned

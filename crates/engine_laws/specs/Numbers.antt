@@ -19,6 +19,7 @@ use Rattle.engine.specs.Run.{runRefusal, runMade, runBy, runOf}
 use Rattle.engine.specs.Fetch.{fetchRefusal, fetchBy, fetchOf}
 use Rattle.engine.specs.Read.{readRefusal, readBy, readOf}
 use Rattle.engine.specs.Whole.{wholeRefusal, wholeDone, wholeBy, wholeOf}
+use Rattle.engine_laws.specs.Marked.{matrixHeard}
 
 -- a call with all that it is handed, and the number that it answers
 pub data Example : Type 0 where
@@ -53,7 +54,7 @@ zeroBytes n = replicate n 0
 
 -- a matrix record in which the real part of each diagonal element is d, and each other byte but the first is b
 abbrev pub withDiagonal : ℕ → ℕ → List ℕ
-withDiagonal d b = 1 ∷ tabulate 256 (λ p. cond (eqb (p % 36) 0) 0 (cond (eqb (p % 36) 1) d b))
+withDiagonal d b = matrixHeard (tabulate 16 (λ p. cond (eqb (p % 2) 0) 0 d)) b
 
 unfoldable pub examples : List Example
 examples =

@@ -12,7 +12,7 @@ use Rattle.matrix_record.specs.MatrixRecord.{antennaHeard}
 use Rattle.covariance.specs.WriteMatrix.{normalized}
 use Rattle.covariance_laws.specs.Snapshots.{sumsAfter}
 use Rattle.covariance_laws.specs.Accumulated.{addedOf}
-use Rattle.covariance_laws.specs.Power.{powerOf, HeardByPower}
+use Rattle.covariance_laws.specs.HeardByPower.{powerOf, HeardByPower}
 use Rattle.covariance_laws.proofs.Accumulated.{accumulated}
 use Rattle.covariance_laws.proofs.WrittenMatrix.{some-added}
 use Rattle.covariance_laws.proofs.Hermitian.{own-element}
