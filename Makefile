@@ -1,5 +1,5 @@
 # make                  lists this
-# make run              factors a sample record: shows the matrix, R and Q, and checks them
+# make run              factors a sample record: shows the matrix, R and Q, checks them, and shows weights
 # make test             the gate: all that is proved and checked, ends in a line `N passed, 0 failed`
 # make build/libhubqr.a the archive for C and Rust
 # make build/qr         the program
@@ -9,7 +9,7 @@
 # make check-tools      the tools of the gate notice what they should
 # make check-edits      each wrong program was refused by itself; after prove
 # make check-face       header, archive, host/rust and the exports in crates/ agree
-# make check-archive    the archive is the same when it is made again
+# make check-archive    the archive is the same when it is made again, and fuses no operations on floats
 # make check-c          the tests in C and C++, by gcc, clang and under valgrind
 # make check-rust       the tests in Rust, the comparison with the independent implementation among them
 # make check-examples   the examples, and what `make run` shows
@@ -24,6 +24,7 @@ CFLAGS := -std=c11 -Wall -Wextra -Werror -pedantic -Iinclude
 CARGO := cargo --quiet
 SOURCES := crates.txt $(shell find crates -type f)
 TOOLS := build/cargo/release
+EXAMPLES := $(TOOLS)/instalments $(TOOLS)/snapshots $(TOOLS)/weights
 # rt waits for each batch of its checks, and they are of unequal length: with two jobs for each processor it waits less.
 RT_JOBS ?= $(shell n=$$(nproc 2> /dev/null) || n=1; echo $$((2 * n)))
 export RT_JOBS
@@ -41,7 +42,7 @@ need-%: FORCE
 	@CC='$(CC)' CXX='$(CXX)' sh tools/need.sh $*
 
 prove build/libhubqr.a build/qr check-tools: | need-platform need-rt
-check-docs check-tools check-format check-rust demands bench figures $(TOOLS)/record $(TOOLS)/instalments $(TOOLS)/snapshots: | need-cargo
+check-docs check-tools check-format check-rust demands bench figures $(TOOLS)/record $(EXAMPLES): | need-cargo
 check-format: | need-rt need-rustfmt need-clippy
 check-tools check-c check-examples bench: | need-cc need-gcc
 check-tools check-c: | need-c++
@@ -83,7 +84,7 @@ build/qr: $(SOURCES)
 $(TOOLS)/record: FORCE
 	@$(CARGO) build --release -p record
 
-$(TOOLS)/instalments $(TOOLS)/snapshots: build/libhubqr.a FORCE
+$(EXAMPLES): build/libhubqr.a FORCE
 	$(CARGO) build --release -p instalments --bin $(@F)
 
 # docs/DEMANDS.md and docs/PINS.md are what docs/demands.txt and the tree give, each promise is pinned, and what the documents cite is there.
@@ -125,11 +126,13 @@ check-rust: build/libhubqr.a build/qr
 	$(CARGO) run --release -p figures -- build
 	cmp build/errors.svg docs/figures/errors.svg
 
-check-examples: build/libhubqr.a build/qr $(TOOLS)/instalments $(TOOLS)/snapshots $(TOOLS)/record
+check-examples: build/libhubqr.a build/qr $(EXAMPLES) $(TOOLS)/record
 	$(CC) $(CFLAGS) -O2 examples/instalments.c build/libhubqr.a -o build/instalments
 	$(CC) $(CFLAGS) -O2 examples/snapshots.c build/libhubqr.a -o build/snapshots
+	$(CC) $(CFLAGS) -O2 examples/weights.c build/libhubqr.a -o build/weights
 	sh examples/compare.sh build/instalments $(TOOLS)/instalments
 	sh examples/test-snapshots.sh build/snapshots $(TOOLS)/snapshots build/qr $(TOOLS)/record
+	sh examples/test-weights.sh build/weights $(TOOLS)/weights build/qr $(TOOLS)/record
 	sh examples/test-run.sh build/qr $(TOOLS)/record
 
 bench: build/libhubqr.a

@@ -6,11 +6,11 @@ use std::ffi::OsStr;
 use std::path::{Path, PathBuf};
 use std::process::Command;
 
-/// A version in C: its name, the turn that it makes or where its header is, the processor that it is
-/// compiled for, and its sources.
+/// A version in C: its name, the turn that it makes or where its header is and how it rounds, the
+/// processor that it is compiled for, and its sources.
 struct Version {
     name: &'static str,
-    option: &'static str,
+    options: &'static [&'static str],
     processor: &'static str,
     sources: &'static [&'static str],
 }
@@ -20,21 +20,21 @@ const BASELINE: &str = "x86-64";
 
 const NARROW: Version = Version {
     name: "narrow",
-    option: "-DROTATE=rotate_narrow",
+    options: &["-DROTATE=rotate_narrow"],
     processor: BASELINE,
     sources: &["narrow.c", "wide.c", "calls.c"],
 };
 
-const VERSIONS: [Version; 5] = [
+const VERSIONS: [Version; 6] = [
     Version {
         name: "plain",
-        option: "-DROTATE=rotate_plain",
+        options: &["-DROTATE=rotate_plain"],
         processor: BASELINE,
         sources: &["plain.c", "calls.c"],
     },
     Version {
         name: "wide",
-        option: "-DROTATE=rotate_wide",
+        options: &["-DROTATE=rotate_wide"],
         processor: BASELINE,
         sources: &["wide.c", "calls.c"],
     },
@@ -46,9 +46,15 @@ const VERSIONS: [Version; 5] = [
     },
     Version {
         name: "covariance",
-        option: "-I../include",
+        options: &["-I../include"],
         processor: BASELINE,
         sources: &["covariance.c"],
+    },
+    Version {
+        name: "weights",
+        options: &["-I../include", "-ffp-contract=off"],
+        processor: BASELINE,
+        sources: &["weights.c"],
     },
 ];
 
@@ -76,8 +82,10 @@ fn watch() {
         "name.h",
         "version.h",
         "covariance.h",
+        "weights.h",
         "../include/hubqr_base.h",
         "../include/hubqr_covariance.h",
+        "../include/hubqr_weights.h",
         "double.h",
         "lapack.c",
         "lapack_complex.c",
@@ -104,7 +112,7 @@ fn versions(folder: &Path, compiler: &str) -> bool {
         let name = format!("{compiler}_{}", version.name);
         let prefix = format!("-DVERSION={name}");
         let processor = format!("-march={}", version.processor);
-        let flags = ["-std=c11", &processor, &prefix, version.option];
+        let flags = [&["-std=c11", &processor, &prefix], version.options].concat();
         let objects = version.sources.iter().map(|source| {
             let object = folder.join(format!("{name}_{source}.o"));
             compile(compiler, &flags, source, &object);

@@ -1,9 +1,11 @@
 /*
- * Calls whose instructions count.sh counts: MATRICES random matrices by Load, Run and Fetch, and as many others by Whole;
- * SNAPSHOTS random snapshots added and the sums written after each, by the engine and by the version in C.
+ * Calls whose instructions count.sh counts: MATRICES random matrices by Load, Run and Fetch, and as many others by Whole; the
+ * weights of the latter for random targets, and SNAPSHOTS random snapshots added and the sums written after each, by the engine
+ * and by the versions in C.
  */
 #include "covariance.h"
 #include "hubqr.h"
+#include "weights.h"
 
 #include <stdlib.h>
 #include <string.h>
@@ -58,6 +60,17 @@ static int at_once(const uint8_t *record)
         == HUBQR_ACCEPTED;
 }
 
+/* Answers whether the engine and the version in C accept the record that was written and answer the same weights. */
+static int weighted(void)
+{
+    struct hubqr_snapshot targets;
+    draw(&targets, sizeof targets);
+    struct hubqr_weights_reply by_engine = hubqr_weights(buffer, sizeof buffer, targets);
+    struct hubqr_weights_reply in_c = NAME(weights)(buffer, sizeof buffer, targets);
+    return by_engine.number == HUBQR_ACCEPTED && in_c.number == HUBQR_ACCEPTED
+        && memcmp(by_engine.weights, in_c.weights, sizeof in_c.weights) == 0;
+}
+
 /* Answers whether the engine and the version in C accept everything and write the same record. */
 static int added(void)
 {
@@ -88,7 +101,7 @@ int main(void)
             return EXIT_FAILURE;
         }
         draw_record(record);
-        if (!at_once(record)) {
+        if (!at_once(record) || !weighted()) {
             return EXIT_FAILURE;
         }
     }

@@ -12,10 +12,12 @@ matrices=100
 snapshots=1000
 scratch=$(mktemp -d)
 trap 'rm -rf "$scratch"' EXIT
-# The version in C is compiled as the benchmark compiles it.
-gcc -std=c11 -O3 -march=x86-64 -Wall -Wextra -Iinclude -DVERSION=c -c bench/covariance.c -o "$scratch/covariance.o"
+# The versions in C are compiled as the benchmark compiles them. Only the weights have products and differences that could be fused.
+for version in covariance weights; do
+    gcc -std=c11 -O3 -march=x86-64 -ffp-contract=off -Wall -Wextra -Iinclude -DVERSION=c -c bench/$version.c -o "$scratch/$version.o"
+done
 cc -std=c11 -O2 -Wall -Wextra -Iinclude -DMATRICES=$matrices -DSNAPSHOTS=$snapshots -DVERSION=c \
-    bench/count.c "$scratch/covariance.o" "$archive" -o "$scratch/count"
+    bench/count.c "$scratch/covariance.o" "$scratch/weights.o" "$archive" -o "$scratch/count"
 valgrind --quiet --tool=callgrind --callgrind-out-file="$scratch/calls" "$scratch/count"
 callgrind_annotate --inclusive=yes --threshold=100 "$scratch/calls" |
     awk -v matrices=$matrices -v snapshots=$snapshots -v style="${1:-plain}" '
@@ -46,6 +48,11 @@ callgrind_annotate --inclusive=yes --threshold=100 "$scratch/calls" |
         gsub(",", "", $1)
         count[name] = $1 / snapshots
     }
+    match($0, /(hubqr_weights|c_weights)/) {
+        name = substr($0, RSTART, RLENGTH)
+        gsub(",", "", $1)
+        count[name] = $1 / matrices
+    }
     END {
         row("call", "instructions", "of Whole")
         if (style == "--markdown") print "|---|--:|--:|"
@@ -55,8 +62,9 @@ callgrind_annotate --inclusive=yes --threshold=100 "$scratch/calls" |
         counted("Whole", count["whole"])
         counted("Whole less Run", count["whole"] - count["run"])
         print ""
-        row("call", "engine", "C by value", "ratio")
+        row("call", "engine", "C", "ratio")
         if (style == "--markdown") print "|---|--:|--:|--:|"
         compared("Adding a snapshot", count["hubqr_add_snapshot"], count["c_add_by_value"])
         compared("Writing the record", count["hubqr_write_matrix"], count["c_write_by_value"])
+        compared("Weights", count["hubqr_weights"], count["c_weights"])
     }'

@@ -1,11 +1,12 @@
 #!/bin/sh
-# Shows the product at work: a sample record, what the program makes of it, and whether that is right. Ends with 0 when it is.
+# Shows the product at work: a sample record, what the program makes of it, whether that is right, and the weights of it. Ends with 0 when it is right.
 # Usage: examples/run.sh QR RECORD RESULT    the programs qr and record, and the file for the result; from the top of the repository
 set -eu
 qr=$1
 record=$2
 result=$3
 sample=examples/records/hermitian.bin
+targets=examples/targets/weakest.txt
 
 echo '1. What a hub heard: the covariance of three machines and some noise at its eight antennas.'
 echo "   $ $record show $sample"
@@ -24,3 +25,9 @@ echo "   the rows of Q orthogonal, and the products of R's columns those of the 
 echo "   $ $record check $sample $result"
 echo
 "$record" check "$sample" "$result"
+echo
+echo '4. What the modem makes of it: the weights of the antennas, which solve matrix times w = targets.'
+echo '   The targets are the wave of the weakest machine, so that these weights make a beam to it.'
+echo "   $ $record weights $result $targets"
+echo
+"$record" weights "$result" "$targets"

@@ -1,5 +1,6 @@
 #!/bin/sh
-# What `make run` shows fits a window of 100 columns, has no zero with a sign, and ends in the verdict; and a wrong result is not let pass.
+# What `make run` shows fits a window of 100 columns, has no zero with a sign, has the verdict and ends in the weights; and a wrong result is not let
+# pass.
 # Usage: examples/test-run.sh QR RECORD    from the top of the repository
 set -u
 export LC_ALL=C
@@ -13,12 +14,14 @@ sh examples/run.sh "$qr" "$record" "$scratch/result" >"$scratch/shown" 2>"$scrat
 wide=$(awk 'length > 100' "$scratch/shown")
 [ -z "$wide" ] || fail "make run prints a line of more than 100 columns: $wide"
 grep -q -E -e '-0\.0*( |$)' "$scratch/shown" && fail "make run prints a zero with a sign"
-for text in '1. What a hub heard' '2. What the proved program makes of it' '3. Is it right?' '# row 7, antennas 4 to 7' 'R in steps' 'Q in parts' \
-    'Q times R from ' "products of Q's rows from " "products of R's columns from "; do
+for text in '1. What a hub heard' '2. What the proved program makes of it' '3. Is it right?' '4. What the modem makes of it' \
+    '# row 7, antennas 4 to 7' 'R in steps' 'Q in parts' 'Q times R from ' "products of Q's rows from " "products of R's columns from " \
+    'weights w: R times w = '; do
     grep -q -F -e "$text" "$scratch/shown" || fail "make run does not print '$text'"
     passed=$((passed + 1))
 done
-[ "$(tail -n 1 "$scratch/shown")" = 'all within their limits' ] || fail "make run does not end in the verdict"
+grep -q -x -F 'all within their limits' "$scratch/shown" || fail "make run does not print the verdict"
+tail -n 1 "$scratch/shown" | grep -q '^ *7 *-26387-19427i  *-4\.859' || fail "make run does not end in the weight of antenna 7"
 
 # The result of another record is a result, and not the one of this record.
 printf '#!/bin/sh\nexec "%s" < "%s"\n' "$PWD/$qr" "$PWD/examples/records/extremes.bin" >"$scratch/wrong"

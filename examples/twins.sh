@@ -29,10 +29,10 @@ check() {
     passed=$((passed + 1))
 }
 
-# Both programs end with status 1 and say so when their output cannot be written.
+# check_full ARGUMENT...: both programs end with status 1 and say so when their output cannot be written.
 check_full() {
     for program in "$c_program" "$rust_program"; do
-        "$program" >/dev/full 2>"$scratch/full.err"
+        "$program" "$@" >/dev/full 2>"$scratch/full.err"
         [ $? = 1 ] || fail "$program does not end with status 1 on a full device"
         grep -q -F 'standard output: ' "$scratch/full.err" || fail "$program does not report a full device"
     done

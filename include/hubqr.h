@@ -10,6 +10,8 @@
  *   In one call:     hubqr_whole.
  *   In instalments:  hubqr_load, then hubqr_run until the turn number is HUBQR_TURNS, then hubqr_fetch.
  *   Later on:        hubqr_read brings a result record back into an area.
+ *   For weights:     hubqr_weights.h, which this header includes as well, works out from a result record what the antennas are
+ *                    weighted with.
  *
  * Records (numbers are two's complement, high byte first)
  *   Matrix record, 257 bytes:    HUBQR_KIND_MATRIX, then 64 elements row by row, each a 16-bit real part and a 16-bit imaginary
@@ -74,6 +76,7 @@
 
 #include "hubqr_base.h"
 #include "hubqr_covariance.h"
+#include "hubqr_weights.h"
 
 /* Words of the area, and the number of turns. */
 #define HUBQR_AREA_WORDS 512

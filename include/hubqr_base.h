@@ -12,7 +12,7 @@
 
 /* The version of these headers. */
 #define HUBQR_VERSION_MAJOR 0
-#define HUBQR_VERSION_MINOR 5
+#define HUBQR_VERSION_MINOR 6
 #define HUBQR_VERSION_PATCH 0
 #define HUBQR_VERSION (10000 * HUBQR_VERSION_MAJOR + 100 * HUBQR_VERSION_MINOR + HUBQR_VERSION_PATCH)
 
@@ -74,7 +74,8 @@ extern "C" {
       "R has a word under its diagonal that is not 0, or a negative one among its first 15 diagonal words")                    \
     X(HUBQR_NONE_ADDED, 9, "no snapshot has been added")                                                                       \
     X(HUBQR_SUMS_OUT_OF_RANGE, 10,                                                                                             \
-      "4,096 snapshots have been added already, the count is above that, or a sum is beyond 2^31 times the count")
+      "4,096 snapshots have been added already, the count is above that, or a sum is beyond 2^31 times the count")             \
+    X(HUBQR_ZERO_DIAGONAL, 11, "one of R's 16 diagonal words is 0")
 
 /* What a reply's `number` can be. */
 enum hubqr_refusal {

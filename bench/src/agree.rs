@@ -68,7 +68,8 @@ pub fn check_double(comparator: &Comparator, seed: u64) -> Result<(), String> {
     Ok(())
 }
 
-fn matrices(random: &mut Random) -> Vec<Matrix> {
+/// Matrices of all kinds, in each of which an antenna is heard.
+pub fn matrices(random: &mut Random) -> Vec<Matrix> {
     let mut matrices = edges();
     for kind in Kind::ALL {
         matrices.extend((0..PER_KIND).map(|_| kind.matrix(random)));

@@ -42,7 +42,8 @@ pub struct Contender {
 /// The version that all others are compared with.
 pub const BASE: Contender = versions::gcc_plain::CONTENDER;
 
-const ACCEPTED: &str = "the benchmark hands over accepted input only";
+/// Why no call is refused while it is timed.
+pub const ACCEPTED: &str = "the benchmark hands over accepted input only";
 
 /// The archive that a host links.
 pub const ENGINE: Contender = Contender {

@@ -1,9 +1,10 @@
 //! An earlier archive of the engine, whose calls `build.rs` gave other names.
 
-use hubqr::ffi::{AddReply, LoadReply, RunReply, Snapshot, Sums, WholeReply};
+use hubqr::ffi::{AddReply, LoadReply, RunReply, Snapshot, Sums, WeightsReply, WholeReply};
 
 use crate::contenders::{Area, Buffer, Clamps, Contender, Record};
 use crate::covariance::implementations::ByValue;
+use crate::weights::contenders::Contender as WeightsContender;
 
 extern "C" {
     fn earlier_hubqr_version() -> u32;
@@ -31,6 +32,11 @@ extern "C" {
     ) -> WholeReply;
     fn earlier_hubqr_add_snapshot(snapshot: Snapshot, sums: Sums) -> AddReply;
     fn earlier_hubqr_write_matrix(sums: Sums, buffer: *mut u8, buffer_len: usize) -> u8;
+    fn earlier_hubqr_weights(
+        record: *const u8,
+        record_len: usize,
+        targets: Snapshot,
+    ) -> WeightsReply;
 }
 
 pub const CONTENDER: Contender = Contender {
@@ -44,6 +50,13 @@ pub const CONTENDER: Contender = Contender {
 pub const ADDING: ByValue = ByValue {
     add: earlier_hubqr_add_snapshot,
     write: earlier_hubqr_write_matrix,
+};
+
+pub const WEIGHTS: WeightsContender = WeightsContender {
+    name: "engine, earlier",
+    weights: |record, targets| unsafe {
+        earlier_hubqr_weights(record.as_ptr(), record.len(), targets)
+    },
 };
 
 /// Says so where the earlier archive's replies may be others than those that are declared here, or go

@@ -16,8 +16,10 @@ mod report;
 mod rounds;
 mod stats;
 mod table;
+mod timed;
 mod times;
 mod versions;
+mod weights;
 
 use std::env;
 use std::fs;
@@ -48,6 +50,7 @@ fn main() -> ExitCode {
     let (rounds, seed) = (options.rounds, options.seed);
     print(&options, &rounds::measured(rounds, seed));
     print_covariance(&options, &covariance::rounds::measured(rounds, seed));
+    print_weights(&options, &weights::rounds::measured(rounds, seed));
     ExitCode::SUCCESS
 }
 
@@ -62,6 +65,9 @@ fn agree(seed: u64) -> Result<(), String> {
         agree::check_double(&comparator, seed)?;
     }
     for contender in covariance::contenders::all() {
+        contender.check(seed)?;
+    }
+    for contender in weights::contenders::all() {
         contender.check(seed)?;
     }
     Ok(())
@@ -92,7 +98,14 @@ fn print(options: &Options, results: &Results) {
 fn print_covariance(options: &Options, results: &covariance::rounds::Results) {
     let everyone = covariance::report::everyone(results);
     section(options, "Adding snapshots", everyone);
-    println!("{}", covariance::report::words(results));
+    println!("{}\n", covariance::report::words(results));
+}
+
+fn print_weights(options: &Options, results: &weights::rounds::Results) {
+    section(options, "Weights", weights::report::everyone(results));
+    let spreads = weights::report::spreads(results);
+    section(options, "Nine of ten rounds of weights", spreads);
+    println!("{}", weights::report::words(results));
 }
 
 fn section(options: &Options, title: &str, table: Table) {

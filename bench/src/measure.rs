@@ -7,7 +7,7 @@ use reference::random::Random;
 
 use crate::contenders::{Area, Buffer, Contender, Record, ENGINE};
 use crate::doubles::Comparator;
-use crate::inputs;
+use crate::{inputs, timed};
 
 const TURNS: u16 = hubqr::TURNS as u16;
 
@@ -115,14 +115,10 @@ impl Batch {
     /// Nanoseconds of a factorization in double on average.
     pub fn time_double(&self, comparator: &Comparator) -> f64 {
         let (mut q, mut r) = ([0.0; 256], [0.0; 256]);
-        let (warm_up, timed) = self.inputs.split_at(1);
-        (comparator.factor)(&warm_up[0].0, &mut q, &mut r);
-        let start = Instant::now();
-        for (record, _) in timed {
+        let nanoseconds = timed::mean(&self.inputs, |(record, _)| {
             (comparator.factor)(record, &mut q, &mut r);
-        }
-        let nanoseconds = start.elapsed().as_nanos() as f64;
+        });
         black_box((q, r));
-        nanoseconds / timed.len() as f64
+        nanoseconds
     }
 }

@@ -5,7 +5,7 @@ usage: bench [--rounds N] [--seed N] [--markdown]
 
 Times the engine beside the reference, versions in C, LAPACK and Eigen.
   --rounds N   rounds of all measurements, 400 if not given
-  --seed N     seed of the random matrices and snapshots, 1 if not given
+  --seed N     seed of the random matrices, snapshots and targets, 1 if not given
   --markdown   print the tables as docs/BENCHMARKS.md has them
 ";
 

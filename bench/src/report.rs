@@ -51,12 +51,22 @@ pub fn engine_over_others(results: &Results) -> Table {
 
 /// How far apart the rounds are.
 pub fn spreads(results: &Results) -> Table {
-    let mut table = Table::new(&["Whole over C plain, gcc", "median", "from", "to"]);
-    for name in results.names(Measure::Whole) {
-        let spread = results.spread(name, BASE.name, Measure::Whole);
+    spread_rows(results, "Whole", BASE.name, Measure::Whole)
+}
+
+/// How far apart the rounds of a measure are, in their ratios to the base.
+pub fn spread_rows<M: Copy + PartialEq>(
+    times: &Times<M>,
+    title: &str,
+    base: &str,
+    measure: M,
+) -> Table {
+    let mut table = Table::new(&[&format!("{title} over {base}"), "median", "from", "to"]);
+    for name in times.names(measure) {
+        let spread = times.spread(name, base, measure);
         table.rows.push(vec![
             name.to_string(),
-            ratio(results.ratio(name, BASE.name, Measure::Whole)),
+            ratio(times.ratio(name, base, measure)),
             ratio(spread.map(|(from, _)| from)),
             ratio(spread.map(|(_, to)| to)),
         ]);
@@ -122,8 +132,39 @@ fn micro_rotations(rotations: u16) -> f64 {
     turns.map(|turn| ((32 - turn.column) * STEPS) as f64).sum()
 }
 
+/// All times at some measures, each under its title, with their ratios to the base, and the engine's
+/// times where theirs are 1. Everyone is timed at the first of them.
+pub fn beside_engine<M: Copy + PartialEq>(
+    times: &Times<M>,
+    base: &str,
+    measures: &[(&str, M)],
+) -> Table {
+    let mut table = Table::new(&[""]);
+    for (title, _) in measures {
+        let columns = ["ns", "cycles", "engine over it"].map(String::from);
+        table.header.push(format!("{title}: ratio"));
+        table.header.extend(columns);
+    }
+    for name in times.names(measures[0].1) {
+        let mut row = vec![name.to_string()];
+        for &(_, measure) in measures {
+            row.extend(ratio_time_cycles(times, name, base, measure));
+            row.push(ratio(times.ratio(ENGINE.name, name, measure)));
+        }
+        table.rows.push(row);
+    }
+    table
+}
+
+/// The clock of the core in these rounds, as a sentence behind another, if it is known.
+pub fn clock<M: Copy + PartialEq>(times: &Times<M>) -> String {
+    let clock = times.cycles_per_nanosecond();
+    let sentence = clock.map(|clock| format!(" The core clock was about {clock:.2} GHz."));
+    sentence.unwrap_or_default()
+}
+
 /// The ratio of a call's time to the base's, and the time in nanoseconds and in cycles of the core.
-pub fn ratio_time_cycles<M: Copy + PartialEq>(
+fn ratio_time_cycles<M: Copy + PartialEq>(
     times: &Times<M>,
     name: &str,
     base: &str,
@@ -139,7 +180,7 @@ pub fn ratio_time_cycles<M: Copy + PartialEq>(
     ]
 }
 
-pub fn ratio(value: Option<f64>) -> String {
+fn ratio(value: Option<f64>) -> String {
     value.map_or(NOTHING.to_string(), |ratio| format!("{ratio:.3}"))
 }
 

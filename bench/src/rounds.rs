@@ -1,7 +1,5 @@
 //! The rounds: in each, every contender does every measure once, on the same fresh inputs.
 
-use reference::random::Random;
-
 use crate::contenders::{self, Contender, BASE, ENGINE};
 use crate::doubles::{self, Comparator};
 use crate::measure::{Batch, Measure};
@@ -42,19 +40,15 @@ pub type Results = Times<Measure>;
 
 pub fn measured(rounds: u64, seed: u64) -> Results {
     let everyone = everyone();
-    let mut times = Times::none();
-    for round in 0..rounds {
-        let mut random = Random::for_case(seed, round);
-        times.note_clock();
+    Times::of_rounds(rounds, seed, |round, random, times| {
         for measure in Measure::all() {
-            let batch = Batch::fresh(measure, &mut random);
+            let batch = Batch::fresh(measure, random);
             let who = everyone.iter().filter(|who| who.does(measure));
             for who in in_turn(who.collect(), round) {
                 times.note(who.name(), measure, who.time(&batch));
             }
         }
-    }
-    times
+    })
 }
 
 fn everyone() -> Vec<Who> {

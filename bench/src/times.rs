@@ -1,5 +1,7 @@
 //! The times of a run, round by round, and what is read from them.
 
+use reference::random::Random;
+
 use crate::clock;
 use crate::stats;
 
@@ -16,16 +18,26 @@ pub struct Times<M> {
 }
 
 impl<M: Copy + PartialEq> Times<M> {
-    pub fn none() -> Self {
+    fn none() -> Self {
         Times {
             series: Vec::new(),
             clock: Vec::new(),
         }
     }
 
-    /// Finds out the clock of the core, if that can be. Once in each round.
-    pub fn note_clock(&mut self) {
-        self.clock.extend(clock::cycles_per_nanosecond());
+    /// The times of so many rounds, each with random input of its own, and the clock of the core in
+    /// each, if that can be found out.
+    pub fn of_rounds(
+        rounds: u64,
+        seed: u64,
+        measure: impl Fn(u64, &mut Random, &mut Self),
+    ) -> Self {
+        let mut times = Times::none();
+        for round in 0..rounds {
+            times.clock.extend(clock::cycles_per_nanosecond());
+            measure(round, &mut Random::for_case(seed, round), &mut times);
+        }
+        times
     }
 
     /// What a call took one contender in this round.

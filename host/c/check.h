@@ -47,5 +47,6 @@ void test_accepted(void);
 void test_heard(void);
 void test_refused(void);
 void test_covariance(void);
+void test_weights(void);
 
 #endif

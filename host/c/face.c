@@ -43,6 +43,14 @@ SIZE(hubqr_add_reply, 1040);
 PLACE(hubqr_add_reply, number, 0);
 PLACE(hubqr_add_reply, sums, 8);
 
+SIZE(hubqr_weight, 16);
+PLACE(hubqr_weight, re, 0);
+PLACE(hubqr_weight, im, 8);
+
+SIZE(hubqr_weights_reply, 136);
+PLACE(hubqr_weights_reply, number, 0);
+PLACE(hubqr_weights_reply, weights, 8);
+
 _Static_assert(HUBQR_VERSION_MINOR < 100 && HUBQR_VERSION_PATCH < 100, "two digits each in HUBQR_VERSION");
 _Static_assert(HUBQR_AREA_ROWS * HUBQR_AREA_COLUMNS == HUBQR_AREA_WORDS, "the area's shape");
 _Static_assert(HUBQR_HEARD_ABOVE == 16, "the real part that an antenna has to pass");
@@ -64,6 +72,7 @@ static void test_words(void)
     CHECK("words of 0", strcmp(hubqr_refusal_words(HUBQR_ACCEPTED), "accepted") == 0);
     CHECK("words of 4", strcmp(hubqr_refusal_words(HUBQR_NONE_HEARD),
                                "no antenna was heard: the real part of every diagonal element is 16 or less") == 0);
+    CHECK("words of 11", strcmp(hubqr_refusal_words(HUBQR_ZERO_DIAGONAL), "one of R's 16 diagonal words is 0") == 0);
     for (int k = 0; k < REFUSALS; k++) {
         CHECK("refusals are numbered from 1 on", numbers[k] == k + 1);
         for (int other = 0; other < k; other++) {

@@ -60,10 +60,28 @@ static bool covariance()
            record[8] == 2 && loaded.number == HUBQR_ACCEPTED && loaded.heard == 2;
 }
 
+// With 3 on R's diagonal and one on Q's, a target part of 1 makes 8192 / 3 of the same part of a weight.
+static bool weighted()
+{
+    buffer.fill(0);
+    buffer[0] = HUBQR_KIND_RESULT;
+    for (int n = 0; n < 16; n++) {
+        buffer[4 + 4 * 17 * n] = 3;
+        buffer[1 + 4 * (256 + 17 * n)] = 0x40;
+    }
+    hubqr_snapshot targets{};
+    targets.samples[2] = {0, 1};
+    auto reply = hubqr_weights(buffer.data(), buffer.size(), targets);
+    buffer[4] = 0;
+    auto zero = hubqr_weights(buffer.data(), buffer.size(), targets);
+    return reply.number == HUBQR_ACCEPTED && reply.weights[2].re == 0 && reply.weights[2].im == 8192.0 / 3 &&
+           zero.number == HUBQR_ZERO_DIAGONAL && zero.weights[2].im == 0;
+}
+
 int main()
 {
     bool named = hubqr_version() == HUBQR_VERSION && hubqr_refusal_words(HUBQR_ACCEPTED) == std::string_view("accepted");
-    bool holds = accepted() && clamped() && refused() && covariance() && named;
+    bool holds = accepted() && clamped() && refused() && covariance() && weighted() && named;
     std::puts(holds ? "hubqr C++ face: passed" : "hubqr C++ face: FAILED");
     return holds ? 0 : 1;
 }

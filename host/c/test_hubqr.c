@@ -13,6 +13,7 @@ int main(void)
     test_heard();
     test_refused();
     test_covariance();
+    test_weights();
     printf("hubqr C face: %u checks passed\n", checks_passed());
     return 0;
 }

@@ -26,7 +26,7 @@ block() {
     awk -v start="\`\`\`$1" '$0 == start { on = 1; next } /^```/ { on = 0 } on' README.md
 }
 
-# project FOLDER: writes a project with README's lines, which factors a sample record.
+# project FOLDER: writes a project with README's lines, which factors a sample record and works out weights.
 project() {
     mkdir -p "$1/src"
     {
@@ -36,8 +36,9 @@ project() {
     {
         echo 'fn main() -> Result<(), hubqr::Refusal> {'
         echo "let record = std::fs::read(\"$top/examples/records/hermitian.bin\").unwrap();"
+        echo 'let targets = [hubqr::Sample { re: 16384, im: 0 }; hubqr::ANTENNAS];'
         block rust
-        echo 'println!("kind {}, all heard: {all_heard}", result[0]);'
+        echo 'println!("kind {}, all heard: {all_heard}, weights: {}", result[0], weights.len());'
         echo 'Ok(())'
         echo '}'
     } >"$1/src/main.rs"
@@ -55,7 +56,7 @@ run() {
 works() {
     what=$1
     shift
-    run "$@" && [ "$(cat "$beside/output")" = 'kind 2, all heard: true' ] || fail "a project $what does not work"
+    run "$@" && [ "$(cat "$beside/output")" = 'kind 2, all heard: true, weights: 8' ] || fail "a project $what does not work"
     passed=$((passed + 1))
 }
 

@@ -141,7 +141,7 @@ fn lent_buffer(buffer: &mut [u8]) -> Result<&mut [u8; RESULT_RECORD], Refusal> {
 }
 
 /// Test 8.
-fn test_triangle(work: &WorkArea) -> Result<(), Refusal> {
+pub(crate) fn test_triangle(work: &WorkArea) -> Result<(), Refusal> {
     if work.is_upper_triangular() && work.has_nonnegative_diagonal() {
         Ok(())
     } else {

@@ -5,9 +5,10 @@
 //! a rotation is decided once and then applied to one column at a time, and every call copies the
 //! lent words in, works on its copy and copies the outcome back.
 //!
-//! [`calls`] has the five calls of the factorization and [`covariance`] the three that make a matrix
-//! record of snapshots. [`accuracy`] has the exact errors of a worked matrix, [`cases`] and [`random`]
-//! the test matrices. [`listing`] and [`program`] say what the programs have to write.
+//! [`calls`] has the five calls of the factorization, [`covariance`] the three that make a matrix
+//! record of snapshots, and [`weights`] the one that solves for weights. [`accuracy`] has the exact
+//! errors of a worked matrix, [`cases`] and [`random`] the test matrices. [`listing`] and [`program`]
+//! say what the programs have to write.
 
 pub mod accuracy;
 pub mod area;
@@ -23,3 +24,4 @@ pub mod records;
 pub mod replies;
 pub mod rotation;
 pub mod schedule;
+pub mod weights;

@@ -26,6 +26,8 @@ pub enum Refusal {
     NoSnapshot = 9,
     /// A snapshot after 4,096, a count above 4,096, or a sum beyond 2^31 times the count.
     Sums = 10,
+    /// A diagonal word of R is 0.
+    ZeroDiagonal = 11,
 }
 
 impl Refusal {

@@ -8,7 +8,8 @@ use hubqr::{Covariance, MATRIX_RECORD_BYTES, SNAPSHOTS_MAX};
 use reference::random::Random;
 
 use super::implementations::{Adding, Engine};
-use crate::inputs;
+use crate::contenders::ACCEPTED;
+use crate::{inputs, timed};
 
 /// Snapshots that are timed together: enough for the clock to be exact, and so few that most batches
 /// are over before another program takes the core.
@@ -20,8 +21,6 @@ const BATCHES: usize = SNAPSHOTS_MAX as usize / SNAPSHOTS;
 
 /// Of the sums that these snapshots lead to, so many are written, evenly apart.
 pub const WRITTEN: usize = 16;
-
-const ACCEPTED: &str = "the benchmark hands over accepted input only";
 
 #[derive(Clone, Copy, PartialEq, Eq)]
 pub enum Measure {
@@ -83,17 +82,11 @@ impl Batch {
     /// Nanoseconds of writing a record on average.
     pub fn time_writing<A: Adding>(&self, who: &A) -> f64 {
         let reached: Vec<A::Sums> = self.reached.iter().map(|sums| who.taken(sums)).collect();
-        let (warm_up, timed) = reached.split_first().expect("one is for warming up");
-        let mut buffer = [0; MATRIX_RECORD_BYTES];
-        let mut number = who.write(warm_up, &mut buffer);
-        let start = Instant::now();
-        for sums in timed {
-            number |= who.write(sums, &mut buffer);
-        }
-        let nanoseconds = start.elapsed().as_nanos() as f64;
+        let (mut buffer, mut number) = ([0; MATRIX_RECORD_BYTES], 0);
+        let nanoseconds = timed::mean(&reached, |sums| number |= who.write(sums, &mut buffer));
         assert_eq!(number, 0, "{ACCEPTED}");
         black_box(buffer);
-        nanoseconds / timed.len() as f64
+        nanoseconds
     }
 }
 

@@ -12,10 +12,12 @@ use Rattle.covariance.specs.declared.Sample.{Sample}
 use Rattle.covariance.specs.Sums.{sumsNone}
 use Rattle.covariance.specs.AddSnapshot.{addOf}
 use Rattle.covariance.specs.WriteMatrix.{writeOf}
+use Rattle.weights.specs.Weights.{weightsOf}
 use Rattle.caller.specs.declared.HalvesReply.{HalvesReply}
 use Rattle.caller.specs.declared.AgainReply.{AgainReply}
 use Rattle.caller.specs.declared.CopyReply.{CopyReply}
 use Rattle.caller.specs.declared.PairReply.{PairReply}
+use Rattle.caller.specs.declared.WeighedReply.{WeighedReply}
 
 pub record HalvesOutcome : Type 0 where
   pub reply : HalvesReply
@@ -71,3 +73,14 @@ pairOf first second buffer =
     let two = addOf second (one .sums) in
     let written = writeOf (two .sums) buffer in
     record { reply = record { first = one .number; second = two .number; written = written .number }; buffer = written .buffer }
+
+pub record WeighedOutcome : Type 0 where
+  pub reply : WeighedReply
+  pub workspace : List ℤ
+  pub buffer : List ℕ
+
+-- Whole, and the weights of what the buffer then holds
+unfoldable pub weighedOf : List ℕ → List Sample → List ℤ → List ℕ → WeighedOutcome
+weighedOf rec targets workspace buffer =
+    let done = wholeOf rec workspace buffer in
+    record { reply = record { whole = done .reply; weights = weightsOf (done .buffer) targets }; workspace = done .workspace; buffer = done .buffer }

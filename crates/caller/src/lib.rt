@@ -1,13 +1,14 @@
 // A caller of all calls, proved from their contracts alone: a factorization in two instalments, a stored result fetched again, a copy of a result,
-// and the matrix of two snapshots. Each answers the replies of all calls that it makes, so that whoever calls it sees the first refusal. The words here are document
+// the matrix of two snapshots, and the weights of a matrix. Each answers the replies of all calls that it makes, so that whoever calls it sees the first refusal. The words here are document
 // 01's own.
 use engine::load::LoadReply;
 use engine::read::ReadReply;
 use engine::run::RunReply;
 use engine::whole::WholeReply;
 use hubqr::snapshots::Snapshot;
+use weights::WeightsReply;
 ghost use mathlib.Core.Path.{_≡_};
-ghost use Rattle.caller.specs.Caller.{HalvesOutcome, halvesOf, AgainOutcome, againOf, CopyOutcome, copyOf, PairOutcome, pairOf};
+ghost use Rattle.caller.specs.Caller.{HalvesOutcome, halvesOf, AgainOutcome, againOf, CopyOutcome, copyOf, PairOutcome, pairOf, WeighedOutcome, weighedOf};
 
 // The turns of one instalment: half of them.
 const HALF: u16 = 60;
@@ -37,6 +38,12 @@ pub struct PairReply {
     pub first: u8,
     pub second: u8,
     pub written: u8,
+}
+
+// The replies of Whole and of the weights.
+pub struct WeighedReply {
+    pub whole: WholeReply,
+    pub weights: WeightsReply,
 }
 
 // Load, the turns in two halves, and Fetch.
@@ -87,5 +94,22 @@ pub fn matrix_of_two(first: Snapshot, second: Snapshot, buffer: &mut [u8]) -> Pa
         first: one.number,
         second: two.number,
         written,
+    }
+}
+
+// Whole, and the weights of what it wrote.
+pub fn factor_and_weigh(
+    bytes: &[u8],
+    targets: Snapshot,
+    area: &mut [i32],
+    buffer: &mut [u8],
+) -> WeighedReply
+    ensures { λ r. ⌜ record { reply = r; workspace = now (area .exit); buffer = now (buffer .exit) } ≡ weighedOf (now (bytes .entry)) (targets .samples) (now (area .entry)) (now (buffer .entry)) ⌝ }
+{
+    let factored = hubqr::hubqr_whole(bytes, area, buffer);
+    let weights = hubqr::modem::hubqr_weights(buffer, targets);
+    WeighedReply {
+        whole: factored,
+        weights,
     }
 }

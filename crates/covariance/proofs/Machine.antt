@@ -3,12 +3,11 @@ use mathlib.Core.Path.{_≡_, _∙_}
 use Prim.Native.Nat.{ℕ, _+_, _^_, _<_}
 use native.Mathlib.Omega.{arith}
 use lib.IntN.{ℤ, _+ℤ_, _-ℤ_, _*ℤ_}
-use lib.Signed.{natAbs-le}
 use mir.Syntax.{w16, w64}
 use mir.Val.{SFits, toZ, ofZ}
 use mir.Facts.{toZ-ofZ}
 use Rattle.integers.specs.Within.{Within}
-use Rattle.integers.proofs.Within.{within, within-+, within--, within-*, within-fits}
+use Rattle.integers.proofs.Within.{within-+, within--, within-*, within-fits, fits-within}
 
 -- what is read back from the 64 bits of a number
 abbrev pub read : ℤ → ℤ
@@ -19,7 +18,7 @@ back {z} h k = toZ-ofZ (within-fits w64 z h k)
 
 -- a number of 16 bits, and the product of two
 pub short : {z : ℤ} → SFits w16 z → Within z (2 ^ 15)
-short {z} f = within (natAbs-le z (f .sfits))
+short f = fits-within f
 
 pub short-product : {x y : ℤ} → SFits w16 x → SFits w16 y → Within (x *ℤ y) (2 ^ 30)
 short-product f g = within-* (short f) (short g)

@@ -22,7 +22,7 @@ use Rattle.engine_laws.specs.RoundTrip.{Words32, Bytes, FetchThenRead, R
 
 module _ (turn : ℕ) (l : List ℤ) (buffer : List ℕ) (fits : Words32 l) (t : fetchRefusal turn l buffer ≡ 0) where
   -- it is accepted
-  written-accepted : (other : List ℤ) → 512 ≤ length other → readRefusal (resultRecord (R l) (Q l)) other ≡ 0
+  pub written-accepted : (other : List ℤ) → 512 ≤ length other → readRefusal (resultRecord (R l) (Q l)) other ≡ 0
   unfolding resultRecord resultByte
   written-accepted other room =
       read-passes (resultRecord (R l) (Q l)) other (record {
@@ -32,7 +32,7 @@ module _ (turn : ℕ) (l : List ℤ) (buffer : List ℕ) (fits : Words32 l) (t :
       })
 
   -- and is what the first 2,049 bytes hold
-  written-is : take 2049 (fetchOf turn l buffer .buffer) ≡ resultRecord (R l) (Q l)
+  pub written-is : take 2049 (fetchOf turn l buffer .buffer) ≡ resultRecord (R l) (Q l)
   unfolding fetchOf fetchBy filled resultRecord
   written-is = rw t (take-at (tabulate 2049 (resultByte (R l) (Q l))) (drop 2049 buffer) 2049 (length-tabulate 2049 (resultByte (R l) (Q l))))
 

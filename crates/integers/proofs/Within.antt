@@ -5,6 +5,7 @@ use Prim.Native.Nat.{ℕ, zero, suc, _+_, _*_, _^_, _≤_, _<_}
 use native.Mathlib.Nat.{le-refl, le-trans, le-of-eq, lt-of-le-of-lt, mul-le-mul, add-le-add}
 use native.Mathlib.Omega.{arith}
 use lib.IntN.{ℤ, pos, negsuc, negℤ, natAbs, _+ℤ_, _-ℤ_, _*ℤ_, +ℤ-invr}
+use lib.Signed.{natAbs-le}
 use mir.Syntax.{Width}
 use mir.Val.{SFits, hbits}
 use Rattle.integers.specs.Within.{Within}
@@ -61,3 +62,6 @@ within-difference a (suc b) {k} p q = within (abs-sub-le a (suc b) k p q)
 pub within-fits : (w : Width) (z : ℤ) {n : ℕ} → Within z n → n < 2 ^ hbits w → SFits w z
 within-fits w (pos a) h k = record { sfits = lt-of-le-of-lt (h .abs) k }
 within-fits w (negsuc a) h k = record { sfits = omega (arith, h .abs, k) }
+
+pub fits-within : {w : Width} {z : ℤ} → SFits w z → Within z (2 ^ hbits w)
+fits-within {w} {z} f = within (natAbs-le z (f .sfits))

@@ -2,7 +2,8 @@
 use mathlib.Core.Path.{_≡_, refl, sym, ap, _∙_, subst}
 use mathlib.Core.Bool.{Bool, true, false, _&&_}
 use mathlib.Core.Logic.{⊎-elim}
-use Prim.Native.Nat.{ℕ, zero, suc, _+_, _<_, _≤_}
+use Prim.Native.Nat.{ℕ, zero, suc, _+_, _-_, _<_, _≤_}
+use native.Mathlib.Decide.{decLt}
 use native.Mathlib.Nat.{le-refl, not-suc-le-zero, le-of-suc-le-suc, eq-or-lt-of-le}
 use native.Mathlib.Numerals.{add-one}
 use native.Mathlib.Omega.{arith}
@@ -65,3 +66,34 @@ pub all-of : (p : ℕ → Bool) (n : ℕ) → ((k : ℕ) → k < n → p k ≡ t
 unfolding allBelow
 all-of p zero h = refl
 all-of p (suc n) h = rw (h n (le-refl (suc n))) (all-of p n (λ k l. h k (omega arith)))
+
+-- a test that held below k and holds after it goes by what it is at k
+pub pass-last : {n : ℕ} {p : ℕ → Bool} {k : ℕ} → Passed n p k → k < n → ((j : ℕ) → k < j → p j ≡ true) → p k ≡ allBelow n p
+pass-last {n} {p} {k} h l f = go (p k) refl
+  where
+    each : p k ≡ true → (j : ℕ) → Dec (j < k) → Dec (k < j) → p j ≡ true
+    each e j (yes a) b = all-at p k (h .held) j a
+    each e j (no a) (yes b) = f j b
+    each e j (no a) (no b) = let q : k ≡ j = omega arith in subst (λ (t : ℕ). p t ≡ true) q e
+
+    go : (b : Bool) → p k ≡ b → b ≡ allBelow n p
+    go true e = sym (all-of p n (λ j a. each e j (decLt j k) (decLt k j)))
+    go false e = fails p n k l e
+
+-- ---- a test in runs of m
+
+-- one run more, of which each holds
+pub pass-run : {n : ℕ} {p : ℕ → Bool} {k : ℕ} (m : ℕ) → Passed n p k → k + m ≤ n → ((j : ℕ) → j < m → p (k + j) ≡ true) → Passed n p (k + m)
+pass-run {n} {p} {k} m h l f = record { within = l; held = all-of p (k + m) (λ i a. either i a (decLt i k)) }
+  where
+    either : (i : ℕ) → i < k + m → Dec (i < k) → p i ≡ true
+    either i a (yes b) = all-at p k (h .held) i b
+    either i a (no b) = let e : k + (i - k) ≡ i = omega arith in subst (λ (t : ℕ). p t ≡ true) e (f (i - k) (omega arith))
+
+-- a run of which one does not hold
+pub run-fails : (p : ℕ → Bool) (n k m : ℕ) → k + m ≤ n → allBelow m (λ j. p (k + j)) ≡ false → false ≡ allBelow n p
+run-fails p n k m l e = go (allBelow n p) refl
+  where
+    go : (b : Bool) → allBelow n p ≡ b → false ≡ b
+    go false h = refl
+    go true h = sym e ∙ all-of (λ j. p (k + j)) m (λ j a. all-at p n h (k + j) (omega arith))

@@ -49,6 +49,10 @@ noneAdded = 9
 abbrev pub sumsOutOfRange : ℕ
 sumsOutOfRange = 10
 
+-- a diagonal word of R is 0 (document 02, U4)
+abbrev pub zeroDiagonal : ℕ
+zeroDiagonal = 11
+
 -- ---- tests in sequence
 
 -- the first of two numbers that is not 0

@@ -12,6 +12,7 @@ use lib.IntN.{ℤ}
 use lib.ListN.{length, getD}
 use mir.Syntax.{w32}
 use mir.Val.{SFits}
+use mir.Facts.{sfits-toZ}
 use Rattle.integers.specs.Matrix.{Matrix}
 use Rattle.lists.specs.Lists.{tabulate}
 use Rattle.lists.proofs.Tabulate.{length-tabulate, getD-tabulate, tabulate-is}
@@ -65,6 +66,23 @@ module _ (r q : Matrix) where
   pub q-back : (i j : ℕ) → i < 16 → j < 16 → SFits w32 (q i j) → recordQ (resultRecord r q) i j ≡ q i j
   unfolding recordQ
   q-back i j a b f = let e = word-of-q r q i j a b in word-back (256 + j * 16 + i) (omega arith) (rw e f) ∙ e
+
+-- ---- words of 32 bits, where the record is one of bytes
+
+module _ (rec : List ℕ) (b : (k : ℕ) → getD rec k 0 < 256) where
+  word-fits : (m : ℕ) → SFits w32 (recordWord rec m)
+  unfolding recordWord
+  word-fits m =
+      sfits-toZ {w = w32} {n = getD rec (1 + 4 * m) 0 * 16777216 + getD rec (1 + 4 * m + 1) 0 * 65536 + getD rec (1 + 4 * m + 2) 0 * 256 + getD rec (1 + 4 * m + 3) 0}
+      (record { fits = omega (arith, b (1 + 4 * m), b (1 + 4 * m + 1), b (1 + 4 * m + 2), b (1 + 4 * m + 3)) })
+
+  pub r-fits : (i j : ℕ) → SFits w32 (recordR rec i j)
+  unfolding recordR
+  r-fits i j = word-fits (i * 16 + j)
+
+  pub q-fits : (i j : ℕ) → SFits w32 (recordQ rec i j)
+  unfolding recordQ
+  q-fits i j = word-fits (256 + j * 16 + i)
 
 -- ---- from bytes to bytes
 

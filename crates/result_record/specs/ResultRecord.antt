@@ -1,4 +1,4 @@
--- Document 01, "Result record": the record of R and Q, the R and Q of a record, and test 8. Assumes nothing.
+-- Document 01, "Result record": the record of R and Q, the R and Q of a record, test 8, and the tests of a record. Assumes nothing.
 use Prim.Native.Nat.{ℕ, _+_, _-_, _*_, _/_, _%_}
 use mathlib.Core.Bool.{Bool, true, cond}
 use mathlib.Core.List.{List}
@@ -9,7 +9,7 @@ use lib.Signed.{nonNeg}
 use Rattle.integers.specs.Matrix.{Matrix, isZero}
 use Rattle.lists.specs.Lists.{tabulate, allBelow}
 use Rattle.words.specs.Words.{int32, byteOf}
-use Rattle.refusals.specs.Refusals.{notTriangular, failsUnless}
+use Rattle.refusals.specs.Refusals.{notTriangular, first, failsUnless, headerTest}
 
 -- the tag (document 01's kind byte) and the length of a result record
 abbrev pub resultTag : ℕ
@@ -58,3 +58,7 @@ isFinished r = allBelow 256 (λ k. isFinishedAt (k / 16) (k % 16) (r (k / 16) (k
 -- 8: a word of R under the diagonal is not 0, or one of its first 15 diagonal words is negative
 abbrev pub resultTest : Matrix → ℕ
 resultTest r = failsUnless (isFinished r) notTriangular
+
+-- ---- tests 1, 2 and 8, of a record by itself
+unfoldable pub recordRefusal : List ℕ → ℕ
+recordRefusal rec = first (headerTest resultTag resultBytes rec) (resultTest (recordR rec))

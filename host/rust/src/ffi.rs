@@ -96,6 +96,26 @@ pub struct AddReply {
     pub sums: Sums,
 }
 
+/// What one antenna is weighted with: a complex number, in which 1.0 is one.
+#[repr(C)]
+#[derive(Clone, Copy, Debug, Default, PartialEq)]
+pub struct Weight {
+    /// The real part.
+    pub re: f64,
+    /// The imaginary part.
+    pub im: f64,
+}
+
+/// What working out the weights answers.
+#[repr(C)]
+#[derive(Clone, Copy, Debug, PartialEq)]
+pub struct WeightsReply {
+    /// 0, or the refusal's number.
+    pub number: u8,
+    /// That of antenna k at place k; of a refused call, +0.0 in all parts.
+    pub weights: [Weight; 8],
+}
+
 extern "C" {
     /// The archive's version: 10000 * major + 100 * minor + patch.
     pub fn hubqr_version() -> u32;
@@ -146,4 +166,7 @@ extern "C" {
 
     /// Writes the matrix record of the sums, and answers the number alone.
     pub fn hubqr_write_matrix(sums: Sums, buffer: *mut u8, buffer_len: usize) -> u8;
+
+    /// Works out the weights that a result record gives for eight targets.
+    pub fn hubqr_weights(record: *const u8, record_len: usize, targets: Snapshot) -> WeightsReply;
 }

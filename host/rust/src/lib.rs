@@ -25,6 +25,10 @@
 //! A **snapshot** is what the eight antennas heard at one instant, a complex sample of each.
 //! [`Covariance`] adds snapshots up and writes the matrix record of the sums.
 //!
+//! The **weights**, a complex number of two 64-bit floats for each antenna, solve A w = t for the
+//! matrix A that was factored and eight **targets** t. [`weights()`] works them out from a result
+//! record.
+//!
 //! Areas and buffers may be longer than needed: what lies behind is not touched. A refused call
 //! changes nothing that it was lent.
 //!
@@ -87,6 +91,8 @@ mod covariance;
 #[cfg(feature = "archive")]
 pub mod ffi;
 mod refusal;
+#[cfg(feature = "archive")]
+mod weights;
 
 #[cfg(feature = "archive")]
 pub use calls::{fetch, load, read, run, version, whole};
@@ -95,8 +101,10 @@ pub use calls::{Clamps, Factored, Loaded, Progress, Restored};
 #[cfg(feature = "archive")]
 pub use covariance::Covariance;
 #[cfg(feature = "archive")]
-pub use ffi::Sample;
+pub use ffi::{Sample, Weight};
 pub use refusal::{Refusal, UnknownNumber};
+#[cfg(feature = "archive")]
+pub use weights::weights;
 
 /// The version of this crate as a number, 10000 * major + 100 * minor + patch. The archive answers
 /// its own in [`version`].

@@ -52,6 +52,7 @@ refusals! {
     NoneAdded = 9, "no snapshot has been added";
     SumsOutOfRange = 10, "4,096 snapshots have been added already, the count is above that, \
                           or a sum is beyond 2^31 times the count";
+    ZeroDiagonal = 11, "one of R's 16 diagonal words is 0";
 }
 
 impl Refusal {

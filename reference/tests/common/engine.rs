@@ -6,6 +6,9 @@ use hubqr::ffi;
 use reference::clamps::Clamps;
 use reference::covariance::Snapshot;
 use reference::replies::{FetchReply, LoadReply, ReadReply, RunReply, WholeReply};
+use reference::weights::WeightsReply;
+
+use super::weights::Targets;
 
 // SAFETY of all calls: the pointers and lengths come from live slices that do not overlap; what is
 // handed over by value may be anything.
@@ -103,4 +106,14 @@ pub fn add_snapshot(snapshot: &Snapshot, sums: ffi::Sums) -> (u8, ffi::Sums) {
 
 pub fn write_matrix(sums: ffi::Sums, buffer: &mut [u8]) -> u8 {
     unsafe { ffi::hubqr_write_matrix(sums, buffer.as_mut_ptr(), buffer.len()) }
+}
+
+pub fn weights(record: &mut [u8], targets: &Targets) -> WeightsReply {
+    let samples = targets.map(|(re, im)| ffi::Sample { re, im });
+    let targets = ffi::Snapshot { samples };
+    let reply = unsafe { ffi::hubqr_weights(record.as_mut_ptr(), record.len(), targets) };
+    WeightsReply {
+        number: reply.number,
+        weights: reply.weights.map(|weight| (weight.re, weight.im)),
+    }
 }

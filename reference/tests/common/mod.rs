@@ -6,8 +6,10 @@
 
 mod engine;
 pub mod heard;
+pub mod snapshots;
 pub mod sums;
 mod twin;
+pub mod weights;
 pub mod words;
 
 use std::fmt::{self, Debug, Display};

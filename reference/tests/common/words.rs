@@ -4,8 +4,8 @@ use reference::area::AREA_WORDS;
 use reference::random::Random;
 
 /// How words are drawn.
-#[derive(Clone, Copy)]
-enum Words {
+#[derive(Debug, Clone, Copy)]
+pub enum Words {
     Any,
     Ends,
     NearPowers,
@@ -13,9 +13,9 @@ enum Words {
 }
 
 impl Words {
-    const ALL: [Words; 4] = [Words::Any, Words::Ends, Words::NearPowers, Words::Small];
+    pub const ALL: [Words; 4] = [Words::Any, Words::Ends, Words::NearPowers, Words::Small];
 
-    fn draw(self, random: &mut Random) -> i32 {
+    pub fn draw(self, random: &mut Random) -> i32 {
         match self {
             Words::Any => random.word(),
             Words::Ends => random.choose(&[i32::MIN, i32::MIN + 1, -1, 0, 1, i32::MAX]),

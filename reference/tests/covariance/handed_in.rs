@@ -3,9 +3,9 @@
 use reference::covariance::{Snapshot, MOST_SNAPSHOTS, SUM_WORDS};
 use reference::random::Random;
 
+use crate::common::snapshots::Snapshots;
 use crate::common::sums::{BothSums, Seen};
 use crate::common::Case;
-use crate::snapshots::Snapshots;
 
 const COUNTS: [u32; 8] = [0, 1, 2, 4_095, 4_096, 4_097, 1 << 31, u32::MAX];
 

@@ -5,9 +5,9 @@ use reference::matrix::{Complex, ANTENNAS};
 use reference::random::Random;
 use reference::records::parse_matrix;
 
+use crate::common::snapshots::Snapshots;
 use crate::common::sums::{BothSums, Seen};
 use crate::common::Case;
-use crate::snapshots::Snapshots;
 
 const LENGTHS: [u32; 8] = [1, 2, 3, 17, 4_095, 4_096, 4_097, 4_100];
 

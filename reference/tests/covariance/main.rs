@@ -9,4 +9,3 @@ mod numbers;
 mod quiet;
 mod quotients;
 mod scenes;
-mod snapshots;

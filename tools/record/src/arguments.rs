@@ -12,6 +12,7 @@ pub enum Command {
     Pack { text: OsString, record: OsString },
     Show { file: OsString },
     Check { matrix: OsString, result: OsString },
+    Weights { result: OsString, targets: OsString },
 }
 
 impl Command {
@@ -28,6 +29,7 @@ impl Command {
             Some("pack") if wants_help => Ok(Command::Help(help::PACK)),
             Some("show") if wants_help => Ok(Command::Help(help::SHOW)),
             Some("check") if wants_help => Ok(Command::Help(help::CHECK)),
+            Some("weights") if wants_help => Ok(Command::Help(help::WEIGHTS)),
             Some("pack") => rest
                 .files("pack IN.txt OUT.bin")
                 .map(|[text, record]| Command::Pack { text, record }),
@@ -35,6 +37,9 @@ impl Command {
             Some("check") => rest
                 .files("check MATRIX RESULT")
                 .map(|[matrix, result]| Command::Check { matrix, result }),
+            Some("weights") => rest
+                .files("weights RESULT TARGETS")
+                .map(|[result, targets]| Command::Weights { result, targets }),
             _ => Err(Failure::Usage(format!("unknown command {}", quoted(&name)))),
         }
     }
@@ -98,6 +103,11 @@ mod tests {
             result: "r".into(),
         };
         assert_eq!(parse(&["check", "m", "r"]).unwrap(), check);
+        let weights = Command::Weights {
+            result: "r".into(),
+            targets: "-".into(),
+        };
+        assert_eq!(parse(&["weights", "r", "-"]).unwrap(), weights);
     }
 
     #[test]
@@ -137,6 +147,7 @@ mod tests {
             &["show", "-v"],
             &["pack", "a"],
             &["check", "a", "--fast"],
+            &["weights", "a"],
         ] {
             let failure = parse(arguments).unwrap_err();
             assert_eq!(failure.status(), 2, "{arguments:?}");

@@ -14,19 +14,14 @@ use crate::{files, Report};
 const LIMIT: i128 = 1 << 44;
 
 pub fn check(matrix: &OsStr, result: &OsStr) -> Result<Report, Failure> {
-    if files::is_standard(matrix) && files::is_standard(result) {
-        let message = "only one of the two records can come from standard input";
-        return Err(Failure::Usage(message.into()));
-    }
+    files::not_both_standard(matrix, result)?;
     let factors = match Record::read(result)? {
         Record::Result(factors) => factors,
         other => return Err(wrong_record(result, &other, "a result record")),
     };
     let matrix = match Record::read(matrix)? {
         Record::Matrix(found) if found.none_heard() => {
-            let why = refused_with(Refusal::NoneHeard);
-            let message = format!("{}: {why}", files::shown(matrix));
-            return Err(Failure::Input(message));
+            return Err(files::named(matrix, refused_with(Refusal::NoneHeard)));
         }
         Record::Matrix(found) => found,
         other => return Err(wrong_record(matrix, &other, "a matrix record")),

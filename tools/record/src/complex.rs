@@ -265,7 +265,7 @@ mod tests {
     fn what_does_not_fit_is_named() {
         let whole = "whole numbers are units of 1/32768 and go from -32768 to 32767";
         let fraction = "numbers with a point or an exponent are parts of one and go from -1 to \
-                        32767/32768, about 0.99997; divide all numbers of the matrix by one that \
+                        32767/32768, about 0.99997; divide all numbers of the file by one that \
                         brings them into this range";
         for (token, offset, written, range) in [
             ("32768", 0, "32768", whole),

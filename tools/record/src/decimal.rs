@@ -80,7 +80,7 @@ impl Decimal<'_> {
         }
         format!(
             "{written} is out of range: numbers with a point or an exponent are parts of one and go \
-             from -1 to 32767/32768, about 0.99997; divide all numbers of the matrix by one that \
+             from -1 to 32767/32768, about 0.99997; divide all numbers of the file by one that \
              brings them into this range"
         )
     }

@@ -42,6 +42,17 @@ impl Factors {
         }
     }
 
+    /// What a word of R is, in words.
+    pub fn word_of_r(&self, (i, j): (usize, usize)) -> String {
+        format!("word ({i}, {j}) of R is {}", self.r[i][j])
+    }
+
+    /// The first place on R's diagonal that holds 0.
+    pub fn zero_on_diagonal(&self) -> Option<(usize, usize)> {
+        let mut diagonal = (0..SIZE).map(|i| (i, i));
+        diagonal.find(|&(i, _)| self.r[i][i] == 0)
+    }
+
     pub fn rule_breaks(&self) -> RuleBreaks {
         let under = |&(i, j): &(usize, usize)| j < i && self.r[i][j] != 0;
         let diagonal = (0..SIZE - 1).map(|i| (i, i));

@@ -1,11 +1,16 @@
 //! Reading with a limit, and writing so that a failure leaves an existing file as it was.
 use std::ffi::{OsStr, OsString};
+use std::fmt::Display;
 use std::fs::{self, File, OpenOptions, Permissions};
 use std::io::{self, ErrorKind, Read, Write};
 use std::path::{Path, PathBuf};
 use std::process;
 
 use crate::failure::Failure;
+use crate::numbers::Fault;
+
+/// Far more than 64 numbers and their remarks need.
+const MOST_TEXT: usize = 1 << 20;
 
 /// Whether a file name stands for standard input or output.
 pub fn is_standard(file: &OsStr) -> bool {
@@ -21,6 +26,40 @@ pub fn shown(file: &OsStr) -> String {
     }
 }
 
+/// What is wrong with a file.
+pub fn named(file: &OsStr, message: impl Display) -> Failure {
+    Failure::Input(format!("{}: {message}", shown(file)))
+}
+
+/// Says so where both files of a command are to come from standard input.
+pub fn not_both_standard(one: &OsStr, other: &OsStr) -> Result<(), Failure> {
+    if is_standard(one) && is_standard(other) {
+        let message = "only one of the two files can come from standard input";
+        return Err(Failure::Usage(message.into()));
+    }
+    Ok(())
+}
+
+/// What a text of numbers describes, which is too long to be what is wanted above 1 MiB.
+pub fn read_text<T>(
+    file: &OsStr,
+    wanted: &str,
+    parse: fn(&str) -> Result<T, Fault>,
+) -> Result<T, Failure> {
+    let bytes = read_up_to(file, MOST_TEXT + 1)?;
+    if bytes.len() > MOST_TEXT {
+        return Err(named(
+            file,
+            format!("longer than 1 MiB, which is no {wanted}"),
+        ));
+    }
+    let text = String::from_utf8(bytes).map_err(|error| {
+        let valid = error.utf8_error().valid_up_to();
+        named(file, format!("no text: byte {valid} is not UTF-8"))
+    })?;
+    parse(&text).map_err(|fault| named(file, fault))
+}
+
 /// A file's first bytes, at most `limit`, or all of them if there are fewer.
 pub fn read_up_to(file: &OsStr, limit: usize) -> Result<Vec<u8>, Failure> {
     let mut bytes = Vec::new();
@@ -31,7 +70,7 @@ pub fn read_up_to(file: &OsStr, limit: usize) -> Result<Vec<u8>, Failure> {
     };
     match read {
         Ok(_) => Ok(bytes),
-        Err(error) => Err(failed(file, error)),
+        Err(error) => Err(named(file, error)),
     }
 }
 
@@ -54,7 +93,7 @@ pub fn replace(file: &OsStr, bytes: &[u8]) -> Result<(), Failure> {
             if error.kind() != ErrorKind::AlreadyExists {
                 let _ = fs::remove_file(&beside);
             }
-            failed(file, error)
+            named(file, error)
         })
 }
 
@@ -68,22 +107,22 @@ pub fn same_file(one: &OsStr, other: &OsStr) -> bool {
 
 /// The permissions of a file that may be replaced, or none where there is no file yet.
 fn replaceable(file: &OsStr) -> Result<Option<Permissions>, Failure> {
-    let refused = |why: &str| Err(Failure::Input(format!("{}: {why}", shown(file))));
     // Links are not followed: what stands behind them is not to be replaced by accident.
     let found = match fs::symlink_metadata(file) {
         Ok(found) => found,
         Err(error) if error.kind() == ErrorKind::NotFound => return Ok(None),
-        Err(error) => return Err(failed(file, error)),
+        Err(error) => return Err(named(file, error)),
     };
     if !found.is_file() {
-        return refused("not a regular file; '-' stands for standard output");
+        let message = "not a regular file; '-' stands for standard output";
+        return Err(named(file, message));
     }
     if found.permissions().readonly() {
-        return refused("read-only");
+        return Err(named(file, "read-only"));
     }
     // Opening changes nothing, and fails where the file is not ours to write.
     let opened = OpenOptions::new().write(true).open(file);
-    opened.map_err(|error| failed(file, error))?;
+    opened.map_err(|error| named(file, error))?;
     Ok(Some(found.permissions()))
 }
 
@@ -94,10 +133,6 @@ fn write_new(file: &Path, bytes: &[u8], permissions: Option<Permissions>) -> io:
     }
     new.write_all(bytes)?;
     new.sync_all()
-}
-
-fn failed(file: &OsStr, error: io::Error) -> Failure {
-    Failure::Input(format!("{}: {error}", shown(file)))
 }
 
 /// A hidden name in the target's folder that no other process uses.

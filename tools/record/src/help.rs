@@ -3,12 +3,13 @@
 pub const VERSION: &str = concat!("record ", env!("CARGO_PKG_VERSION"), "\n");
 
 pub const ALL: &str = "\
-Makes, shows and checks the records of the eight-antenna QR engine.
+Makes, shows and checks the records of the eight-antenna QR engine, and solves for weights.
 
 Usage:
   record pack IN.txt OUT.bin     makes a matrix record from a text of 8 by 8 complex numbers
   record show FILE               prints a matrix, result or refusal record
   record check MATRIX RESULT     computes the errors of a result and shows them against their limits
+  record weights RESULT TARGETS  prints the weights that a result and eight targets give
   record COMMAND --help          says more about a command
   record --version               prints the version
 
@@ -72,4 +73,22 @@ A matrix in which no antenna was heard has no result, since the engine refuses i
 
 Exit status: 0 when all are within their limits, 1 when one is not, when a file is no such record or
 when the engine refuses the matrix.
+";
+
+pub const WEIGHTS: &str = "\
+Usage: record weights RESULT TARGETS
+
+Prints the weights of the eight antennas that the result record RESULT and eight targets give. They
+solve R times w = Q transposed times the targets, the real parts first and then the imaginary parts;
+so the matrix that was factored, times w, gives the targets. A weight of 1 is one.
+
+TARGETS is a text of eight complex numbers with blanks, commas or line ends between them, that of row
+k of the matrix at place k. They are written as 'record pack --help' says: whole numbers in units of
+1/32768, or decimal fractions. What follows a '#' is a remark.
+
+A line has an antenna, its target in units of 1/32768, the real and the imaginary part of its weight,
+the weight's magnitude, and its phase in degrees. Parts and magnitudes are 64-bit floats, printed in
+nine significant digits; a zero keeps its sign, and a weight that is 0 has no phase.
+
+A record that the engine refuses has no weights: the reason is printed, and the exit status is 1.
 ";

@@ -1,4 +1,5 @@
-//! `record`: makes, shows and checks the records of the eight-antenna QR engine.
+//! `record`: makes, shows and checks the records of the eight-antenna QR engine, and solves for
+//! weights.
 mod arguments;
 mod check;
 mod complex;
@@ -6,15 +7,19 @@ mod decimal;
 mod entries;
 mod factors;
 mod failure;
+mod figures;
 mod files;
 mod help;
 mod matrix;
+mod numbers;
 mod pack;
 mod records;
 mod refusal;
 mod show;
 mod standard_output;
+mod targets;
 mod text;
+mod weights;
 
 use std::env;
 use std::io::{self, Write};
@@ -76,6 +81,7 @@ fn perform(command: Command) -> Result<Report, Failure> {
         Command::Pack { text, record } => pack::pack(&text, &record),
         Command::Show { file } => show::show(&file),
         Command::Check { matrix, result } => check::check(&matrix, &result),
+        Command::Weights { result, targets } => weights::weights(&result, &targets),
     }
 }
 

@@ -20,10 +20,8 @@ pub enum Record {
 
 impl Record {
     pub fn read(file: &OsStr) -> Result<Record, Failure> {
-        // One byte more than the longest record shows that a file is too long.
-        let bytes = files::read_up_to(file, factors::BYTES + 1)?;
-        let named = |message| Failure::Input(format!("{}: {message}", files::shown(file)));
-        Record::from_bytes(&bytes).map_err(named)
+        let bytes = read_bytes(file)?;
+        Record::from_bytes(&bytes).map_err(|message| files::named(file, message))
     }
 
     fn from_bytes(bytes: &[u8]) -> Result<Record, String> {
@@ -59,12 +57,19 @@ impl Record {
     }
 }
 
+/// What a file holds, as far as a record goes: one byte more than the longest shows that it is too
+/// long.
+pub fn read_bytes(file: &OsStr) -> Result<Vec<u8>, Failure> {
+    files::read_up_to(file, factors::BYTES + 1)
+}
+
 fn wrong_length(bytes: &[u8], kind: &str, expected: usize) -> String {
     let why = refused_with(Refusal::WrongLength);
     format!("{}: {why}", has_length(bytes, kind, expected))
 }
 
-fn has_length(bytes: &[u8], kind: &str, expected: usize) -> String {
+/// How many bytes a record of a kind has, and how many these are.
+pub fn has_length(bytes: &[u8], kind: &str, expected: usize) -> String {
     let found = match bytes.len() {
         length if length > factors::BYTES => format!("more than {}", factors::BYTES),
         length => length.to_string(),

@@ -5,6 +5,7 @@ use hubqr::Refusal;
 
 use crate::factors::{Factors, Words, SIZE};
 use crate::failure::Failure;
+use crate::figures::fixed;
 use crate::matrix::{Element, Matrix};
 use crate::records::Record;
 use crate::refusal::refused_with;
@@ -23,9 +24,8 @@ pub fn show(file: &OsStr) -> Result<Report, Failure> {
                 Ok(Report::text(text, true))
             }
             Err(_) => {
-                let file = files::shown(file);
-                let message = format!("{file}: a refusal record of number {number}, which is none");
-                Err(Failure::Input(message))
+                let message = format!("a refusal record of number {number}, which is none");
+                Err(files::named(file, message))
             }
         },
     }
@@ -65,7 +65,8 @@ fn matrix_text(matrix: &Matrix) -> String {
     text
 }
 
-fn element_text(element: Element) -> String {
+/// An element. Its parts meet in the same column of every line.
+pub fn element_text(element: Element) -> String {
     let imaginary = format!("{:+}i", element.imaginary);
     format!("{:>8}{imaginary:<7}", element.real)
 }
@@ -73,10 +74,9 @@ fn element_text(element: Element) -> String {
 fn result_text(factors: &Factors) -> String {
     let verdict = match factors.rule_breaks().first() {
         None => "R is upper triangular and its first 15 diagonal words are not negative".into(),
-        Some((i, j)) => {
-            let word = factors.r[i][j];
+        Some(place) => {
             let why = refused_with(Refusal::NotTriangular);
-            format!("word ({i}, {j}) of R is {word}: {why}")
+            format!("{}: {why}", factors.word_of_r(place))
         }
     };
     let r = words_text(
@@ -112,15 +112,10 @@ fn words_text(name: &str, words: &Words, shift: u32, decimals: usize) -> String 
     text
 }
 
-/// A word that is 0 is a bare 0, so that it differs from one that only rounds to 0, which has no sign.
+/// A word that is 0 is a bare 0, so that it differs from one that only rounds to 0.
 fn decimal(word: i32, shift: u32, decimals: usize) -> String {
     if word == 0 {
         return "0".to_string();
     }
-    let text = format!("{:.decimals$}", f64::from(word) / f64::from(1 << shift));
-    let rounds_to_zero = !text.bytes().any(|byte| (b'1'..=b'9').contains(&byte));
-    match text.strip_prefix('-') {
-        Some(unsigned) if rounds_to_zero => unsigned.to_string(),
-        _ => text,
-    }
+    fixed(f64::from(word) / f64::from(1 << shift), decimals)
 }

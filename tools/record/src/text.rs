@@ -1,45 +1,13 @@
-//! The text of a matrix: 8 rows of 8 complex numbers, with remarks behind '#'.
-use std::fmt::{self, Display, Formatter};
-
-use crate::complex::{self, Part};
-use crate::decimal::Style;
-use crate::entries::{entries, Entry};
+//! The text of a matrix: 8 rows of 8 complex numbers.
+use crate::entries::Entry;
 use crate::matrix::{Element, Matrix, SIZE};
+use crate::numbers::{lines, Fault, Line, Numbers};
 
-/// What is wrong with a text, and where. Lines and columns count from 1, as editors count them.
-#[derive(Debug, PartialEq)]
-pub struct Fault {
-    line: usize,
-    column: usize,
-    message: String,
-}
-
-impl Display for Fault {
-    fn fmt(&self, f: &mut Formatter<'_>) -> fmt::Result {
-        let Fault {
-            line,
-            column,
-            message,
-        } = self;
-        write!(f, "line {line}, column {column}: {message}")
-    }
-}
-
-fn fault(line: usize, column: usize, message: String) -> Fault {
-    Fault {
-        line,
-        column,
-        message,
-    }
-}
-
-/// The matrix that a text describes. Some editors begin a text with a byte-order mark.
+/// The matrix that a text describes.
 pub fn parse(text: &str) -> Result<Matrix, Fault> {
-    let text = text.strip_prefix('\u{feff}').unwrap_or(text);
     let mut reader = Reader::default();
-    for line in text.lines() {
-        reader.line += 1;
-        reader.read_line(line)?;
+    for line in lines(text) {
+        reader.read_line(line?)?;
     }
     reader.finish()
 }
@@ -50,32 +18,24 @@ struct Reader {
     rows: Vec<[Element; SIZE]>,
     /// The row that is being read: a line that ends in '\' leaves it open.
     row: Vec<Element>,
-    style: StyleOfFile,
+    numbers: Numbers,
     line: usize,
 }
 
 impl Reader {
-    fn read_line(&mut self, line: &str) -> Result<(), Fault> {
-        let numbers = line.split('#').next().unwrap_or_default().trim_end();
-        let (numbers, goes_on) = match numbers.strip_suffix('\\') {
-            Some(numbers) => (numbers, true),
-            None => (numbers, false),
-        };
-        let entries = entries(numbers).map_err(|column| {
-            let message = "a number expected, found ','".to_string();
-            fault(self.line, column, message)
-        })?;
-        let is_blank = entries.is_empty() && self.row.is_empty();
-        for entry in entries {
+    fn read_line(&mut self, line: Line) -> Result<(), Fault> {
+        self.line = line.number;
+        let is_blank = line.entries.is_empty() && self.row.is_empty();
+        for entry in line.entries {
             self.read_entry(entry)?;
         }
-        if goes_on || is_blank {
+        if line.goes_on || is_blank {
             return Ok(());
         }
-        self.end_row(numbers.chars().count() + 1)
+        self.end_row(line.end)
     }
 
-    fn read_entry(&mut self, Entry { column, token }: Entry) -> Result<(), Fault> {
+    fn read_entry(&mut self, entry: Entry) -> Result<(), Fault> {
         let row = self.rows.len();
         let one_too_many = if row == SIZE {
             Some(format!("a ninth row of numbers, a matrix has {SIZE}"))
@@ -85,15 +45,9 @@ impl Reader {
             None
         };
         if let Some(message) = one_too_many {
-            return Err(fault(self.line, column, message));
+            return Err(Fault::new(self.line, entry.column, message));
         }
-        let parts = complex::parse(token)
-            .map_err(|wrong| fault(self.line, column + wrong.offset, wrong.message))?;
-        for part in parts {
-            self.style.agree(part, self.line, column)?;
-        }
-        let [real, imaginary] = parts.map(|part| part.units);
-        self.row.push(Element { real, imaginary });
+        self.row.push(self.numbers.read(self.line, entry)?);
         Ok(())
     }
 
@@ -102,7 +56,7 @@ impl Reader {
         let elements = std::mem::take(&mut self.row);
         let elements = elements.try_into().map_err(|_| {
             let message = format!("row {row} ends after {count} numbers, {SIZE} are needed");
-            fault(self.line, column, message)
+            Fault::new(self.line, column, message)
         })?;
         self.rows.push(elements);
         Ok(())
@@ -115,39 +69,9 @@ impl Reader {
         let (count, line) = (self.rows.len(), self.line.max(1));
         let rows = self.rows.try_into().map_err(|_| {
             let message = format!("the text ends after {count} rows of numbers, {SIZE} are needed");
-            fault(line, 1, message)
+            Fault::new(line, 1, message)
         })?;
         Ok(Matrix { rows })
-    }
-}
-
-/// The style that the numbers of a file have in common: a 1 between fractions would be taken for
-/// one by its writer and is 1/32768.
-#[derive(Default)]
-struct StyleOfFile {
-    first: Option<(Style, usize)>,
-}
-
-impl StyleOfFile {
-    fn agree(&mut self, part: Part, line: usize, column: usize) -> Result<(), Fault> {
-        let Some(style) = part.style else {
-            return Ok(());
-        };
-        let (first, first_line) = *self.first.get_or_insert((style, line));
-        if style == first {
-            return Ok(());
-        }
-        let message = match style {
-            Style::Whole => format!(
-                "a whole number in a file of decimal fractions (see line {first_line}): \
-                 write all parts in the same way"
-            ),
-            Style::Fraction => format!(
-                "a decimal fraction in a file of whole numbers (see line {first_line}): \
-                 write all parts in the same way"
-            ),
-        };
-        Err(fault(line, column + part.offset, message))
     }
 }
 

@@ -5,3 +5,4 @@ mod heard;
 mod lent;
 mod refusal;
 mod refused;
+mod weights;

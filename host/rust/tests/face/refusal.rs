@@ -22,6 +22,10 @@ fn each_has_words_of_its_own() {
         Refusal::NoneHeard.to_string(),
         "no antenna was heard: the real part of every diagonal element is 16 or less"
     );
+    assert_eq!(
+        Refusal::ZeroDiagonal.to_string(),
+        "one of R's 16 diagonal words is 0"
+    );
     assert_eq!(UnknownNumber(0).to_string(), "0 is no refusal number");
 }
 

@@ -7,3 +7,4 @@ mod samples;
 mod show;
 mod tool;
 mod usage;
+mod weights;

@@ -1,21 +1,23 @@
 //! What cannot be written is noticed: the status is not 0, and a record is not lost without a word.
 use crate::tool::{matrix_record, worked, Folder, Outcome};
 
-/// A folder with a text, the matrix record of it, and the result of that.
+/// A folder with a text, the matrix record of it, the result of that, and targets.
 fn folder(name: &str) -> Folder {
     let folder = Folder::new(name);
     let matrix = matrix_record(20, (2, 3));
     folder.write("r.bin", worked(&matrix));
     folder.write("m.bin", matrix);
     folder.write("m.txt", folder.run(&["show", "m.bin"]).stdout);
+    folder.write("t.txt", "1 2 3 4 5 6 7 8i");
     folder
 }
 
-const COMMANDS: [&[&str]; 6] = [
+const COMMANDS: [&[&str]; 7] = [
     &["pack", "m.txt", "-"],
     &["pack", "m.txt", "new.bin"],
     &["show", "m.bin"],
     &["check", "m.bin", "r.bin"],
+    &["weights", "r.bin", "t.txt"],
     &["--help"],
     &["--version"],
 ];
@@ -69,6 +71,7 @@ fn a_reader_that_stops_early_is_noticed_quietly() {
     for (arguments, input) in [
         (&["show", "-"][..], "m.bin"),
         (&["check", "m.bin", "-"], "r.bin"),
+        (&["weights", "r.bin", "-"], "t.txt"),
     ] {
         let outcome = folder.run_with_output_unread(arguments, &folder.read(input));
         assert_eq!((outcome.status, outcome.stderr.as_str()), (1, ""));

@@ -96,7 +96,7 @@ fn bad_text_is_pointed_at_and_nothing_is_written() {
     folder.write("old.bin", "as it was");
     for (content, message) in [
         (text("1", "32768"), "line 1, column 22: 32768 is out of range: whole numbers are units of 1/32768 and go from -32768 to 32767"),
-        (text("0.5", "1.0"), "line 1, column 24: 1.0 is out of range: numbers with a point or an exponent are parts of one and go from -1 to 32767/32768, about 0.99997; divide all numbers of the matrix by one that brings them into this range"),
+        (text("0.5", "1.0"), "line 1, column 24: 1.0 is out of range: numbers with a point or an exponent are parts of one and go from -1 to 32767/32768, about 0.99997; divide all numbers of the file by one that brings them into this range"),
         (text("1", "1+2k"), "line 1, column 25: 'i' behind the imaginary part expected, found 'k'"),
         (text("1", "2 3"), "line 1, column 24: a ninth number in row 0, a row has 8"),
         (text("1", ""), "line 1, column 20: row 0 ends after 7 numbers, 8 are needed"),

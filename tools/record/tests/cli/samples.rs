@@ -1,14 +1,19 @@
-//! The sample records: each is what its text makes, and does what its README says.
+//! The sample records and targets: each record is what its text makes, and each does what its README
+//! says.
 use hubqr::{Refusal, AREA_WORDS, RESULT_RECORD_BYTES};
+use std::f64::consts::PI;
 use std::fs;
 use std::path::{Path, PathBuf};
 
-use crate::tool::Folder;
+use crate::tool::{worked, Folder};
+use crate::weights::lines;
+
+fn examples() -> PathBuf {
+    Path::new(env!("CARGO_MANIFEST_DIR")).join("../../examples")
+}
 
 fn sample(name: &str) -> PathBuf {
-    Path::new(env!("CARGO_MANIFEST_DIR"))
-        .join("../../examples/records")
-        .join(name)
+    examples().join("records").join(name)
 }
 
 const SAMPLES: [(&str, Result<u8, Refusal>); 6] = [
@@ -99,4 +104,43 @@ fn the_extremes_are_at_the_ends_of_the_range() {
     let parts = elements("extremes").into_iter().flatten();
     let mut parts = parts.flat_map(|(real, imaginary)| [real, imaginary]);
     assert!(parts.all(|part| part == i16::MIN || part == i16::MAX));
+}
+
+/// The wave that comes to the eight antennas of a line from a machine at an angle, as the real and the
+/// imaginary part of what each hears. Half a wavelength lies between antennas.
+fn wave(degrees: f64) -> [(f64, f64); 8] {
+    let turn = PI * degrees.to_radians().sin();
+    std::array::from_fn(|k| {
+        let (im, re) = (turn * k as f64).sin_cos();
+        (re, im)
+    })
+}
+
+/// The magnitude of the sum of what each antenna hears times the conjugate of its weight.
+fn gain(weights: &[(f64, f64)], wave: [(f64, f64); 8]) -> f64 {
+    let products = weights.iter().zip(wave).map(|((re, im), (u, v))| {
+        let (real, imaginary) = (re * u + im * v, re * v - im * u);
+        (real, imaginary)
+    });
+    let (re, im) = products.fold((0.0, 0.0), |(re, im), (u, v)| (re + u, im + v));
+    re.hypot(im)
+}
+
+#[test]
+fn the_targets_are_the_wave_of_the_weakest_machine_and_make_a_beam_to_it() {
+    let folder = Folder::new("samples-targets");
+    folder.write("r.bin", worked(&fs::read(sample("hermitian.bin")).unwrap()));
+    let targets = fs::read(examples().join("targets/weakest.txt")).unwrap();
+    let outcome = folder.run_with_input(&["weights", "r.bin", "-"], &targets);
+    let lines = lines(&outcome);
+    for (columns, (re, im)) in lines.iter().zip(wave(48.0)) {
+        let target = format!("{:.0}{:+.0}i", 32767.0 * re, 32767.0 * im);
+        assert_eq!(columns[1], target);
+    }
+    let part = |text: &str| text.parse::<f64>().unwrap();
+    let weights = lines.iter().map(|line| (part(line[2]), part(line[3])));
+    let weights: Vec<(f64, f64)> = weights.collect();
+    let [first, second, weakest] = [-35.0, 10.0, 48.0].map(|angle| gain(&weights, wave(angle)));
+    assert!((14.0..15.0).contains(&weakest), "{weakest}");
+    assert!(weakest > 12.0 * first && weakest > 12.0 * second);
 }

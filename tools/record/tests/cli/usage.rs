@@ -9,6 +9,7 @@ fn help_is_printed() {
         (&["pack", "--help"], "Usage: record pack IN.txt OUT.bin\n"),
         (&["show", "--help"], "Usage: record show FILE\n"),
         (&["check", "--help"], "Usage: record check MATRIX RESULT\n"),
+        (&["weights", "-h"], "Usage: record weights RESULT TARGETS\n"),
     ] {
         let outcome = folder.run(arguments);
         assert_eq!((outcome.status, outcome.stderr.as_str()), (0, ""));
@@ -23,6 +24,7 @@ fn a_wrong_command_line_is_an_error_of_status_2() {
     let show = "usage: record show FILE";
     let pack = "usage: record pack IN.txt OUT.bin";
     let check = "usage: record check MATRIX RESULT";
+    let weights = "usage: record weights RESULT TARGETS";
     for (arguments, message) in [
         (&[][..], "no command given".to_string()),
         (&["list"], "unknown command 'list'".into()),
@@ -47,6 +49,10 @@ fn a_wrong_command_line_is_an_error_of_status_2() {
         (
             &["check", "a"],
             format!("2 file names needed, 1 given; {check}"),
+        ),
+        (
+            &["weights", "a", "b", "c"],
+            format!("2 file names needed, 3 given; {weights}"),
         ),
     ] {
         let outcome = folder.run(arguments);

@@ -1,0 +1,8 @@
+//! A result and targets in, weights out, timed in rounds of their own.
+
+mod agree;
+pub mod contenders;
+mod measure;
+pub mod report;
+pub mod rounds;
+mod versions;

@@ -1,0 +1,1 @@
+// Theorems on the weights of a result record: definitions and laws, and no code.
