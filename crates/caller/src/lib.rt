@@ -97,7 +97,7 @@ pub fn matrix_of_two(first: Snapshot, second: Snapshot, buffer: &mut [u8]) -> Pa
     }
 }
 
-// Whole, and the weights of what it wrote.
+// Whole, and the weights of what the buffer then holds.
 pub fn factor_and_weigh(
     bytes: &[u8],
     targets: Snapshot,

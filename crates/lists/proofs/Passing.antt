@@ -42,7 +42,7 @@ fails p (suc n) k l e =
 pub pass-fails : {n : ℕ} {p : ℕ → Bool} {k : ℕ} → Passed n p k → k < n → p k ≡ false → false ≡ allBelow n p
 pass-fails {n} {p} {k} h l e = fails p n k l e
 
-and-parts : (a b : Bool) → (a && b) ≡ true → (a ≡ true) × (b ≡ true)
+pub and-parts : (a b : Bool) → (a && b) ≡ true → (a ≡ true) × (b ≡ true)
 and-parts true b h = (refl, h)
 and-parts false b h = (h, absurd (subst T (sym h) tt))
 

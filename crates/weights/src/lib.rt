@@ -19,7 +19,7 @@ pub struct Weight {
     pub im: f64,
 }
 
-// The refusal's number and the weights: all of them 0 in a refusal.
+// The refusal's number and the weights, which are +0.0 in a refusal.
 #[repr(C)]
 pub struct WeightsReply {
     pub number: u8,

@@ -33,11 +33,11 @@ pub fn target_parts(targets: [Sample; 8]) -> [i16; 16]
     ensures { λ t. ⌜ t ≡ tabulate 16 (targetPart targets) ⌝ }
 {
     let mut parts = [0; 16];
-    let mut j = 0;
-    while j < 16 {
-        let t = target_part(targets, j);
-        parts[j] = t;
-        j += 1;
+    let mut k = 0;
+    while k < 16 {
+        let t = target_part(targets, k);
+        parts[k] = t;
+        k += 1;
     }
     parts
 }

@@ -5,3 +5,4 @@ pub mod Answers
 pub mod Solved
 pub mod Finite
 pub mod Weighable
+pub mod Possible

@@ -1,4 +1,4 @@
--- Which records are accepted, what a refusal answers, and what the call makes of a result that the engine wrote. Assumes nothing.
+-- Which records are accepted, what a refusal answers, and what the call makes of what an accepted Fetch wrote. Assumes nothing.
 use mathlib.Core.Path.{_≡_, refl, sym, ap, _∙_}
 use mathlib.Core.Bool.{Bool, true, false}
 use mathlib.Core.Logic.{_↔_, _⊎_, inl, inr}

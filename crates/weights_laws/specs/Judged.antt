@@ -8,6 +8,7 @@ use lib.ListN.{replicate}
 use Rattle.lists.specs.Lists.{allBelow}
 use Rattle.refusals.specs.Refusals.{headerTest}
 use Rattle.result_record.specs.ResultRecord.{recordWord, recordR, isFinishedAt, isFinished, recordRefusal}
+use Rattle.covariance.specs.declared.Sample.{Sample}
 use Rattle.weights.specs.Weights.{diagonalNonzero, weightsRefusal, weightsBy, weightsOf}
 
 -- a record, and the number that the call answers, whatever the targets
@@ -15,7 +16,7 @@ pub data Judgement : Type 0 where
   judges : List ℕ → ℕ → Judgement
 
 abbrev pub Judges : Judgement → Type 0
-Judges (judges rec n) = weightsOf rec [] .number ≡ n
+Judges (judges rec n) = (targets : List Sample) → weightsOf rec targets .number ≡ n
 
 abbrev pub AllJudged : List Judgement → Type 0
 AllJudged [] = Unit {0}
@@ -32,11 +33,11 @@ diagonal first last = 2 ∷ first ++ replicate 64 0 ++ ones 14 ++ last ++ replic
 
 unfoldable pub judgements : List Judgement
 judgements =
-    -- 1, and then 2
+    -- 1, and then 2: the records of 2,048 and 2,050 bytes have a word under the diagonal and zeros on it
     judges [] 1
-    ∷ judges (1 ∷ replicate 2047 0) 1
-    ∷ judges (2 ∷ replicate 2047 0) 2
-    ∷ judges (2 ∷ replicate 2049 0) 2
+    ∷ judges (1 ∷ replicate 67 0 ++ 1 ∷ replicate 1979 0) 1
+    ∷ judges (2 ∷ replicate 67 0 ++ 1 ∷ replicate 1979 0) 2
+    ∷ judges (2 ∷ replicate 67 0 ++ 1 ∷ replicate 1981 0) 2
     -- 8: word (1, 0) is 1, and word (0, 0) is -1; the diagonal has words of 0 as well
     ∷ judges (2 ∷ replicate 67 0 ++ 1 ∷ replicate 1980 0) 8
     ∷ judges (diagonal (255 ∷ 255 ∷ 255 ∷ 255 ∷ []) (0 ∷ 0 ∷ 0 ∷ 0 ∷ [])) 8
@@ -48,4 +49,5 @@ judgements =
 
 pub judged : AllJudged judgements
 unfolding judgements diagonal ones headerTest recordWord recordR isFinishedAt isFinished allBelow recordRefusal diagonalNonzero weightsRefusal weightsBy weightsOf
-judged = (refl, (refl, (refl, (refl, (refl, (refl, (refl, (refl, tt))))))))
+judged =
+    (λ targets. refl, (λ targets. refl, (λ targets. refl, (λ targets. refl, (λ targets. refl, (λ targets. refl, (λ targets. refl, (λ targets. refl, tt))))))))

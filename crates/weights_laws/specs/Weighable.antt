@@ -1,5 +1,5 @@
 -- Document 02, U4: "11 a diagonal word is 0, after 1, 2 and 8 on the record". Which records are accepted, what a refusal answers besides its number, and that
--- of what the engine writes none is refused by another number than 11. Assumes nothing.
+-- of what an accepted Fetch writes none is refused by another number than 11. Assumes nothing.
 use mathlib.Core.Path.{_≡_}
 use mathlib.Core.Logic.{_↔_, _⊎_}
 use mathlib.Core.List.{List}

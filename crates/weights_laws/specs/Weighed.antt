@@ -54,7 +54,7 @@ weighings =
     -- the imaginary part of target 2 is part 10, and component 10 the imaginary part of weight 2
     ∷ weighs (pos 3) [] (pos 1073741824) [] (part 10 (negsuc 4) ∷ []) 10 (fin true 7505999378950827 (negsuc 38))
     ∷ weighs (pos 3) [] (pos 1073741824) [] (part 10 (negsuc 4) ∷ []) 2 (fin false 0 (pos 0))
-    -- Q's word (4, 1) brings target 4 into row 1, and not target 1 into row 4
+    -- Q's word (4, 1) brings target 4 into row 1, and leaves row 4 as it is
     ∷ weighs (pos 3) [] (pos 1073741824) (at 4 1 (pos 131072) ∷ []) (part 4 (pos 7) ∷ []) 1 (fin false 5254199565265579 (negsuc 50))
     ∷ weighs (pos 3) [] (pos 1073741824) (at 4 1 (pos 131072) ∷ []) (part 4 (pos 7) ∷ []) 4 (fin false 5254199565265579 (negsuc 37))
     -- the sum is made a float before it is divided: 1 over 131,072 is not 0

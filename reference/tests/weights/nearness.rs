@@ -1,5 +1,5 @@
 //! How near the weights are to the solution of A w = t, where A is the matrix that was factored and
-//! t the targets. Of that nothing is proved; this is the only place where it is tested.
+//! t the targets. Of that nothing is proved.
 
 use reference::cases::Kind;
 use reference::matrix::{Complex, Matrix, ANTENNAS};

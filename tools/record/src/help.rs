@@ -86,8 +86,8 @@ TARGETS is a text of eight complex numbers with blanks, commas or line ends betw
 k of the matrix at place k. They are written as 'record pack --help' says: whole numbers in units of
 1/32768, or decimal fractions. What follows a '#' is a remark.
 
-A line has an antenna, its target in units of 1/32768, the real and the imaginary part of its weight,
-the weight's magnitude, and its phase in degrees. Parts and magnitudes are 64-bit floats, printed in
+Line k has the target of row k in units of 1/32768, and of the weight of antenna k the real and the
+imaginary part, the magnitude, and the phase in degrees. Parts and magnitudes are 64-bit floats, printed in
 nine significant digits; a zero keeps its sign, and a weight that is 0 has no phase.
 
 A record that the engine refuses has no weights: the reason is printed, and the exit status is 1.

@@ -1,4 +1,4 @@
--- `factor_and_weigh` meets its contract: the weights are of what Whole wrote. Assumes nothing.
+-- `factor_and_weigh` meets its contract: the weights are of what Whole left in the buffer. Assumes nothing.
 use mathlib.Core.Path.{_≡_}
 use mathlib.Core.List.{List}
 use Prim.Native.Nat.{ℕ}

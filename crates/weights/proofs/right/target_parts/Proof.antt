@@ -1,4 +1,4 @@
--- `target_parts` meets its contract: the first j parts are in their places. Assumes nothing.
+-- `target_parts` meets its contract: the first k parts are in their places. Assumes nothing.
 use mathlib.Core.Path.{_∙_}
 use Prim.Native.Nat.{_-_}
 use native.Mathlib.Omega.{arith}
@@ -14,10 +14,10 @@ use Rattle.weights.proofs.right.target_parts.Statement.{statement}
 use Rattle.weights.proofs.right.target_parts.Tie as tie
 
 abbrev Inv-loop : tie.InvT-loop
-Inv-loop targets parts₀ j₀ parts j = Filling 16 (targetPart targets) (replicate 16 (pos 0)) j parts
+Inv-loop targets parts₀ k₀ parts k = Filling 16 (targetPart targets) (replicate 16 (pos 0)) k parts
 
 abbrev μ-loop : tie.MeasureT-loop
-μ-loop targets parts₀ j₀ parts j = 16 - j
+μ-loop targets parts₀ k₀ parts k = 16 - k
 
 loop-holds : tie.Need-loop-holds Inv-loop μ-loop
 loop-holds c = fill-none 16 _ (replicate 16 (pos 0))
@@ -31,8 +31,8 @@ mul-parts c = omega arith
 array-set-from-parts : tie.Need-array-set-from-parts Inv-loop μ-loop
 array-set-from-parts c = omega arith
 
-add-j : tie.Need-add-j Inv-loop μ-loop
-add-j c = omega arith
+add-k : tie.Need-add-k Inv-loop μ-loop
+add-k c = omega arith
 
 loop-less : tie.Need-loop-less Inv-loop μ-loop
 loop-less c = omega arith
@@ -46,4 +46,4 @@ returns : tie.Need-returns Inv-loop μ-loop
 returns c = fill-done (c .before .loop .inv) (c .loop-test .left) ∙ filled-all 16 _ (replicate 16 (pos 0)) (omega arith)
 
 pub target-parts-spec : {M : Type 1} → statement M
-target-parts-spec = tie.close (tie.spec Inv-loop μ-loop loop-holds target-part-requires mul-parts array-set-from-parts add-j loop-less loop-again returns)
+target-parts-spec = tie.close (tie.spec Inv-loop μ-loop loop-holds target-part-requires mul-parts array-set-from-parts add-k loop-less loop-again returns)
