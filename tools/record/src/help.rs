@@ -87,8 +87,8 @@ k of the matrix at place k. They are written as 'record pack --help' says: whole
 1/32768, or decimal fractions. What follows a '#' is a remark.
 
 Line k has the target of row k in units of 1/32768, and of the weight of antenna k the real and the
-imaginary part, the magnitude, and the phase in degrees. Parts and magnitudes are 64-bit floats, printed in
-nine significant digits; a zero keeps its sign, and a weight that is 0 has no phase.
+imaginary part, the magnitude, and the phase in degrees. Parts and magnitudes are 64-bit floats,
+printed in nine significant digits; a zero keeps its sign, and a weight that is 0 has no phase.
 
 A record that the engine refuses has no weights: the reason is printed, and the exit status is 1.
 ";
