@@ -132,6 +132,26 @@ static void test_words_of_r(void)
     }
 }
 
+/* The smallest sums and an odd one of 46 bits, (2^31 - 1) * (2^15 - 1): made a float and then divided, each loses nothing. */
+static void test_right_sums(void)
+{
+    for (int n = 0; n < PARTS; n++) {
+        begin();
+        set_word(r(n, n), 1);
+        set_word(qt(n, n), 1);
+        target[n] = 1;
+        due[n] = 0x1p-17;
+        accept("a sum of 1");
+        target[n] = -1;
+        due[n] = -0x1p-17;
+        accept("a sum of -1");
+        set_word(qt(n, n), INT32_MAX);
+        target[n] = 32767;
+        due[n] = 0x3fff7fff8001p-17;
+        accept("an odd sum of 46 bits");
+    }
+}
+
 /*
  * Row 13 begins with 8192, from which 3 * third is taken, and then third. The product is rounded to 8192, and -third is left to
  * be divided by 3. Fused, the product would leave 2^-41 more; from the last column on, the first difference would lose a bit.
@@ -320,6 +340,7 @@ void test_weights(void)
     test_single_parts();
     test_words_of_q();
     test_words_of_r();
+    test_right_sums();
     test_order();
     test_quotient();
     test_negative_diagonal();

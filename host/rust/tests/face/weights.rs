@@ -133,6 +133,21 @@ fn word_i_j_of_r_takes_part_j_off_row_i() {
     }
 }
 
+/// The smallest sums and an odd one of 46 bits, (2^31 - 1) (2^15 - 1): made a float and then
+/// divided, each loses nothing.
+#[test]
+fn right_hand_sums_are_floats_before_they_are_divided() {
+    let smallest = (-17_f64).exp2().to_bits();
+    let odd = (70_366_596_661_249.0_f64 * (-17_f64).exp2()).to_bits();
+    for n in 0..PARTS {
+        let handed = Handed::new().r(n, n, 1).qt(n, n, 1);
+        handed.clone().part(n, 1).gives(&[(n, smallest)]);
+        handed.clone().part(n, -1).gives(&[(n, negative(smallest))]);
+        let handed = handed.qt(n, n, i32::MAX).part(n, i16::MAX);
+        handed.gives(&[(n, odd)]);
+    }
+}
+
 /// Row 13 begins with 8192, from which 3 times 8192 / 3 is taken, and then 8192 / 3. The product is
 /// rounded to 8192. Fused, it would leave 2^-41 more; from the last column on, the first difference
 /// would lose a bit.
