@@ -27,7 +27,8 @@ echo
 "$record" check "$sample" "$result"
 echo
 echo '4. What the modem makes of it: the weights of the antennas, which solve matrix times w = targets.'
-echo '   The targets are the wave of the weakest machine, so that these weights make a beam to it.'
+echo '   The targets are the wave of the weakest machine, so that these weights make a beam to it. The'
+echo '   independent implementation works them out; the proved call, hubqr_weights, gives the same bits.'
 echo "   $ $record weights $result $targets"
 echo
 "$record" weights "$result" "$targets"

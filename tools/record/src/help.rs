@@ -90,5 +90,8 @@ Line k has the target of row k in units of 1/32768, and of the weight of antenna
 imaginary part, the magnitude, and the phase in degrees. Parts and magnitudes are 64-bit floats,
 printed in nine significant digits; a zero keeps its sign, and a weight that is 0 has no phase.
 
+Nothing in this tool is proved. It takes the weights from the independent implementation in
+reference/; the proved call, hubqr_weights, is tested to give the same bits.
+
 A record that the engine refuses has no weights: the reason is printed, and the exit status is 1.
 ";
