@@ -70,6 +70,10 @@ pub eq-of-sub : (a b : ℤ) → a -ℤ b ≡ pos zero → a ≡ b
 eq-of-sub a b e = neg-unique a (negℤ b) e ∙ negℤ-negℤ b
 
 -- ---- the absolute value
+pub abs-zero : (x : ℤ) → natAbs x ≡ 0 → x ≡ pos 0
+abs-zero (pos n) e = ap pos e
+abs-zero (negsuc n) e = absurd (omega arith)
+
 pub abs-neg : (x : ℤ) → natAbs (negℤ x) ≡ natAbs x
 abs-neg (pos zero) = refl
 abs-neg (pos (suc n)) = refl

@@ -109,7 +109,7 @@ module _ (r q : Matrix) (t : ℕ → ℤ) (r-fits : (i j : ℕ) → SFits w32 (r
 pub finite : Finite
 finite rec targets b t k h = go (weightsRefusal rec) refl
   where
-    go : (n : ℕ) → weightsRefusal rec ≡ n → AtMost (weightAt rec targets k .re) 786 × AtMost (weightAt rec targets k .im) 786
+    go : (n : ℕ) → weightsRefusal rec ≡ n → AtMost (weightAt rec targets k .re) (50 + 46 * 16) × AtMost (weightAt rec targets k .im) (50 + 46 * 16)
     go zero e =
         let full = passed-diagonal rec e in
         let most = rows-most (recordR rec) (recordQ rec) (targetPart targets) (r-fits rec b) (q-fits rec b) (part-fits targets t) full 16 (omega arith) in

@@ -4,9 +4,9 @@ use mathlib.Core.Bool.{Bool, true, false}
 use mathlib.Core.Logic.{_↔_, _⊎_, inl, inr}
 use mathlib.Core.List.{List}
 use Prim.Native.Nat.{ℕ}
-use native.Mathlib.Omega.{arith}
-use lib.IntN.{ℤ, pos, negsuc, natAbs}
+use lib.IntN.{ℤ, natAbs}
 use lib.ListN.{take}
+use Rattle.integers.proofs.Laws.{abs-zero}
 use Rattle.refusals.specs.Refusals.{failsUnless}
 use Rattle.refusals.proofs.Refusals.{first-is}
 use Rattle.result_record.specs.ResultRecord.{resultRecord, recordR, recordRefusal}
@@ -22,16 +22,12 @@ use Rattle.weights.specs.Weights.{diagonalNonzero, weightsRefusal, weightsOf}
 use Rattle.weights_laws.specs.Weighable.{NoZero, Weighable}
 use Rattle.weights_laws.proofs.Answers.{number-is, refused-weight, nonzero-if, passed-record, passed-diagonal}
 
-zero-abs : (z : ℤ) → natAbs z ≡ 0 → z ≡ pos 0
-zero-abs (pos n) e = ap pos e
-zero-abs (negsuc n) e = absurd (omega arith)
-
 -- ---- any record
 
 module _ (rec : List ℕ) where
   passes : recordRefusal rec ≡ 0 → NoZero (recordR rec) → weightsRefusal rec ≡ 0
   unfolding weightsRefusal
-  passes e f = rw (e, nonzero-if (recordR rec) (λ i h z. f i h (zero-abs (recordR rec i i) z)))
+  passes e f = rw (e, nonzero-if (recordR rec) (λ i h z. f i h (abs-zero (recordR rec i i) z)))
 
   no-zero : weightsRefusal rec ≡ 0 → NoZero (recordR rec)
   no-zero e i h z = passed-diagonal rec e i h (ap natAbs z)
