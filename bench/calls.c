@@ -50,18 +50,24 @@ uint8_t NAME(load)(const uint8_t *record, int32_t *area)
     return (uint8_t)heard;
 }
 
-/* Makes at most `allowance` of the turns that remain and answers the clamps. */
-struct clamps NAME(run)(uint32_t turn, uint16_t allowance, int32_t *area)
+/* Goes on by at most `allowance` of the turns that remain and skips those that are clear. Answers the job and the clamps. */
+struct run_reply NAME(run)(struct job job, uint16_t allowance, int32_t *area)
 {
-    uint32_t end = allowance < TURNS - turn ? turn + allowance : TURNS;
+    uint32_t end = allowance < TURNS - job.turn ? job.turn + allowance : TURNS;
     struct clamps clamps = {0, 0};
-    for (; turn < end; turn++) {
-        const uint8_t *t = schedule[turn];
-        struct clamps more = NAME(ROTATE)(area + COLUMNS * t[1], area + COLUMNS * t[2], t[0]);
+    for (; job.turn < end; job.turn++) {
+        const uint8_t *t = schedule[job.turn];
+        int32_t *upper = area + COLUMNS * t[1];
+        int32_t *lower = area + COLUMNS * t[2];
+        if (lower[t[0]] == 0 && upper[t[0]] >= 0) {
+            continue;
+        }
+        struct clamps more = NAME(ROTATE)(upper, lower, t[0]);
+        job.made++;
         clamps.r += more.r;
         clamps.q += more.q;
     }
-    return clamps;
+    return (struct run_reply){job, clamps};
 }
 
 /* Writes the result record: R, then Q transposed. */
@@ -87,7 +93,7 @@ struct whole_reply NAME(whole)(const uint8_t *record, int32_t *area, uint8_t *bu
 {
     struct whole_reply reply;
     reply.heard = NAME(load)(record, area);
-    reply.clamps = NAME(run)(0, TURNS, area);
+    reply.clamps = NAME(run)((struct job){0, 0}, TURNS, area).clamps;
     NAME(fetch)(area, buffer);
     return reply;
 }

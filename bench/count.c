@@ -1,7 +1,7 @@
 /*
- * Calls whose instructions count.sh counts: MATRICES random matrices by Load, Run and Fetch, and as many others by Whole; the
- * weights of the latter for random targets, and SNAPSHOTS random snapshots added and the sums written after each, by the engine
- * and by the versions in C.
+ * Calls whose instructions count.sh counts. With the argument full: MATRICES random matrices by Load, Run and Fetch, and as many
+ * others by Whole; the weights of the latter for random targets, and SNAPSHOTS random snapshots added and the sums written after
+ * each, by the engine and by the versions in C. With the argument half-empty or diagonal: MATRICES such matrices by Whole.
  */
 #include "covariance.h"
 #include "hubqr.h"
@@ -43,15 +43,40 @@ static void draw_record(uint8_t *record)
     } while (!any_heard(record));
 }
 
+/* The same with nothing in the columns of antennas 4 to 7. */
+static void draw_half_empty(uint8_t *record)
+{
+    do {
+        draw_record(record);
+        for (int n = 0; n < HUBQR_ANTENNAS * HUBQR_ANTENNAS; n++) {
+            if (n % HUBQR_ANTENNAS >= 4) {
+                memset(record + 1 + 4 * n, 0, 4);
+            }
+        }
+    } while (!any_heard(record));
+}
+
+/* A matrix record with (32767, 0) on the diagonal, of which no turn is made. */
+static void make_diagonal(uint8_t *record)
+{
+    memset(record, 0, HUBQR_MATRIX_RECORD_BYTES);
+    record[0] = HUBQR_KIND_MATRIX;
+    for (int k = 0; k < HUBQR_ANTENNAS; k++) {
+        uint8_t *diagonal = record + 1 + 4 * (HUBQR_ANTENNAS * k + k);
+        diagonal[0] = 0x7f;
+        diagonal[1] = 0xff;
+    }
+}
+
 static int in_parts(const uint8_t *record)
 {
     struct hubqr_load_reply loaded = hubqr_load(record, HUBQR_MATRIX_RECORD_BYTES, area, HUBQR_AREA_WORDS);
     if (loaded.number != HUBQR_ACCEPTED) {
         return 0;
     }
-    struct hubqr_run_reply ran = hubqr_run(loaded.turn, HUBQR_TURNS, area, HUBQR_AREA_WORDS);
+    struct hubqr_run_reply ran = hubqr_run(loaded.job, HUBQR_TURNS, area, HUBQR_AREA_WORDS);
     return ran.number == HUBQR_ACCEPTED
-        && hubqr_fetch(ran.turn, area, HUBQR_AREA_WORDS, buffer, sizeof buffer) == HUBQR_ACCEPTED;
+        && hubqr_fetch(ran.job, area, HUBQR_AREA_WORDS, buffer, sizeof buffer) == HUBQR_ACCEPTED;
 }
 
 static int at_once(const uint8_t *record)
@@ -92,18 +117,49 @@ static int added(void)
     return 1;
 }
 
-int main(void)
+/* Answers whether Whole accepts all matrices that are made in this way. */
+static int emptier(void (*make)(uint8_t *record))
+{
+    uint8_t record[HUBQR_MATRIX_RECORD_BYTES];
+    for (int k = 0; k < MATRICES; k++) {
+        make(record);
+        if (!at_once(record)) {
+            return 0;
+        }
+    }
+    return 1;
+}
+
+/* Answers whether every call accepts what it is handed. */
+static int all_calls(void)
 {
     uint8_t record[HUBQR_MATRIX_RECORD_BYTES];
     for (int k = 0; k < MATRICES; k++) {
         draw_record(record);
         if (!in_parts(record)) {
-            return EXIT_FAILURE;
+            return 0;
         }
         draw_record(record);
         if (!at_once(record) || !weighted()) {
-            return EXIT_FAILURE;
+            return 0;
         }
     }
-    return added() ? EXIT_SUCCESS : EXIT_FAILURE;
+    return added();
+}
+
+/* Answers whether the argument names what can be counted, and all its calls are accepted. */
+static int counted(const char *argument)
+{
+    if (strcmp(argument, "full") == 0) {
+        return all_calls();
+    }
+    if (strcmp(argument, "half-empty") == 0) {
+        return emptier(draw_half_empty);
+    }
+    return strcmp(argument, "diagonal") == 0 && emptier(make_diagonal);
+}
+
+int main(int argc, char **argv)
+{
+    return argc == 2 && counted(argv[1]) ? EXIT_SUCCESS : EXIT_FAILURE;
 }

@@ -18,9 +18,12 @@ for version in covariance weights; do
 done
 cc -std=c11 -O2 -Wall -Wextra -Iinclude -DMATRICES=$matrices -DSNAPSHOTS=$snapshots -DVERSION=c \
     bench/count.c "$scratch/covariance.o" "$scratch/weights.o" "$archive" -o "$scratch/count"
-valgrind --quiet --tool=callgrind --callgrind-out-file="$scratch/calls" "$scratch/count"
-callgrind_annotate --inclusive=yes --threshold=100 "$scratch/calls" |
-    awk -v matrices=$matrices -v snapshots=$snapshots -v style="${1:-plain}" '
+# What callgrind counts of matrices of each kind goes into a file of that name.
+for kind in full half-empty diagonal; do
+    valgrind --quiet --tool=callgrind --callgrind-out-file="$scratch/calls" "$scratch/count" $kind
+    callgrind_annotate --inclusive=yes --threshold=100 "$scratch/calls" >"$scratch/$kind"
+done
+awk -v matrices=$matrices -v snapshots=$snapshots -v style="${1:-plain}" '
     function row(first, second, third, fourth) {
         if (style == "--markdown") print "| " first " | " second " | " third " |" (fourth == "" ? "" : " " fourth " |")
         else printf "%-20s %14s %10s" (fourth == "" ? "%s" : " %10s") "\n", first, second, third, fourth
@@ -39,7 +42,7 @@ callgrind_annotate --inclusive=yes --threshold=100 "$scratch/calls" |
         row(call, whole_number(engine), whole_number(in_c), sprintf("%.3f", engine / in_c))
     }
     match($0, /hubqr_(load|run|fetch|whole)/) {
-        name = substr($0, RSTART + 6, RLENGTH - 6)
+        name = substr($0, RSTART + 6, RLENGTH - 6) emptier
         gsub(",", "", $1)
         count[name] = $1 / matrices
     }
@@ -61,10 +64,12 @@ callgrind_annotate --inclusive=yes --threshold=100 "$scratch/calls" |
         counted("Fetch", count["fetch"])
         counted("Whole", count["whole"])
         counted("Whole less Run", count["whole"] - count["run"])
+        counted("Whole, half-empty", count["whole, half-empty"])
+        counted("Whole, diagonal", count["whole, diagonal"])
         print ""
         row("call", "engine", "C", "ratio")
         if (style == "--markdown") print "|---|--:|--:|--:|"
         compared("Adding a snapshot", count["hubqr_add_snapshot"], count["c_add_by_value"])
         compared("Writing the record", count["hubqr_write_matrix"], count["c_write_by_value"])
         compared("Weights", count["hubqr_weights"], count["c_weights"])
-    }'
+    }' "$scratch/full" emptier=', half-empty' "$scratch/half-empty" emptier=', diagonal' "$scratch/diagonal"

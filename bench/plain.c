@@ -1,4 +1,4 @@
-/* A turn as the specification words it: sums in 64 bits, one column after the other. The leading column decides the signs. */
+/* A turn that is made, as the specification words it: sums in 64 bits, column by column. The leading column decides the signs. */
 #include "version.h"
 
 struct clamps NAME(rotate_plain)(int32_t *upper, int32_t *lower, int leading)

@@ -19,13 +19,25 @@ struct clamps {
     uint32_t q;
 };
 
+/* How far the work on an area is: the turns done, the skipped ones included, and the turns made. */
+struct job {
+    uint32_t turn;
+    uint32_t made;
+};
+
+/* What Run answers. */
+struct run_reply {
+    struct job job;
+    struct clamps clamps;
+};
+
 /* What Whole answers. */
 struct whole_reply {
     uint8_t heard;
     struct clamps clamps;
 };
 
-/* One turn of two rows of the area, from the leading column on, which is one of R. Answers the clamps. */
+/* One turn of two rows of the area that are not clear, from the leading column on, which is one of R. Answers the clamps. */
 struct clamps NAME(rotate_plain)(int32_t *upper, int32_t *lower, int leading);
 struct clamps NAME(rotate_wide)(int32_t *upper, int32_t *lower, int leading);
 struct clamps NAME(rotate_narrow)(int32_t *upper, int32_t *lower, int leading);

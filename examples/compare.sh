@@ -14,11 +14,12 @@ script=examples
 . tools/checks.sh
 . examples/twins.sh
 
-check 0 'turn 120 of 120, count 1, clamps 0 in R, 0 in Q, rounds of other work 18'
+check 0 'turn 120 of 120, made 120, count 1, clamps 0 in R, 0 in Q, rounds of other work 18'
 check 0 'heard antennas: 0 1 2 3 4 5 6 7' $records/hermitian.bin
 check 0 'heard antennas: 0 1 2 3 4 6 7' $records/loose-plug.bin
 check 0 'result record: kind 02, 2049 bytes' $records/extremes.bin
-check 0 'turn   7 of 120, count 7, clamps 0 in R, 0 in Q, rounds of other work 1' $records/single.bin
+check 0 'turn   7 of 120, made   0, count 7, clamps 0 in R, 0 in Q, rounds of other work 1' $records/single.bin
+check 0 'turn 120 of 120, made   0, count 1, clamps 0 in R, 0 in Q, rounds of other work 18' $records/single.bin
 for refused in hum zeros; do
     check 1 'refused with number 4: no antenna was heard: the real part of every diagonal element is 16 or less' $records/$refused.bin
 done

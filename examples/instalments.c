@@ -1,5 +1,6 @@
 /*
- * Factors a matrix record in instalments of 7 rotations, with other work between them, and prints R.
+ * Factors a matrix record in instalments of 7 rotations, with other work between them, and prints R. Each instalment says how far
+ * the job is, and how many of the rotations were truly made: those that have nothing to clear are skipped.
  *
  *   cc -std=c11 -Iinclude examples/instalments.c build/libhubqr.a -o build/instalments
  *   build/instalments [RECORD]
@@ -49,22 +50,28 @@ static void other_work(unsigned *rounds)
     *rounds += 1;
 }
 
-/* Makes all turns in instalments. Returns the last reply; no area filled by Load is refused. */
-static struct hubqr_run_reply work(int32_t *area, uint32_t turn)
+/* Prints what an instalment answered. */
+static void print_instalment(struct hubqr_run_reply ran, unsigned rounds)
+{
+    printf("turn %3lu of %d, made %3lu, count %lu, clamps %lu in R, %lu in Q, rounds of other work %u\n",
+           (unsigned long)ran.job.turn, HUBQR_TURNS, (unsigned long)ran.job.made, (unsigned long)ran.count,
+           (unsigned long)ran.clamps_r, (unsigned long)ran.clamps_q, rounds);
+}
+
+/* Does all turns in instalments, and takes the job along. Returns the number; no area filled by Load is refused. */
+static uint8_t work(int32_t *area, struct hubqr_job *job)
 {
     unsigned rounds = 0;
-    struct hubqr_run_reply ran;
-    do {
-        ran = hubqr_run(turn, INSTALMENT, area, HUBQR_AREA_WORDS);
+    while (job->turn < HUBQR_TURNS) {
+        struct hubqr_run_reply ran = hubqr_run(*job, INSTALMENT, area, HUBQR_AREA_WORDS);
         if (ran.number != HUBQR_ACCEPTED) {
-            break;
+            return ran.number;
         }
-        turn = ran.turn;
+        *job = ran.job;
         other_work(&rounds);
-        printf("turn %3lu of %d, count %lu, clamps %lu in R, %lu in Q, rounds of other work %u\n", (unsigned long)turn,
-               HUBQR_TURNS, (unsigned long)ran.count, (unsigned long)ran.clamps_r, (unsigned long)ran.clamps_q, rounds);
-    } while (turn < HUBQR_TURNS);
-    return ran;
+        print_instalment(ran, rounds);
+    }
+    return HUBQR_ACCEPTED;
 }
 
 static void print_heard(uint8_t heard)
@@ -119,8 +126,8 @@ int main(int argc, char **argv)
         return 1;
     }
     print_heard(loaded.heard);
-    struct hubqr_run_reply ran = work(area, loaded.turn);
-    if (refused(path, ran.number) || refused(path, hubqr_fetch(ran.turn, area, HUBQR_AREA_WORDS, result, sizeof result))) {
+    struct hubqr_job job = loaded.job;
+    if (refused(path, work(area, &job)) || refused(path, hubqr_fetch(job, area, HUBQR_AREA_WORDS, result, sizeof result))) {
         return 1;
     }
     printf("result record: kind %02X, %lu bytes\n", (unsigned)result[0], (unsigned long)sizeof result);

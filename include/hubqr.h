@@ -8,7 +8,7 @@
  * Use
  *   From snapshots:  hubqr_covariance.h, which this header includes, adds up what the antennas heard and writes a matrix record.
  *   In one call:     hubqr_whole.
- *   In instalments:  hubqr_load, then hubqr_run until the turn number is HUBQR_TURNS, then hubqr_fetch.
+ *   In instalments:  hubqr_load, then hubqr_run while job.turn < HUBQR_TURNS, then hubqr_fetch.
  *   Later on:        hubqr_read brings a result record back into an area.
  *   For weights:     hubqr_weights.h, which this header includes as well, works out from a result record what the antennas are
  *                    weighted with.
@@ -21,17 +21,24 @@
  *
  * The area
  *   512 words of 32 bits, 16 rows of 32 columns. The complex matrix is worked as a real one of 16 by 16: real parts upper left
- *   and lower right, imaginary parts lower left, their negatives upper right. Once all turns are made, for i and j from 0 to 15:
+ *   and lower right, imaginary parts lower left, their negatives upper right. At turn number 120, for i and j from 0 to 15:
  *     R(i, j) is area[32 * i + j];        one in Q1.15 is HUBQR_R_ONE, so one step of the 16-bit input is 2^13
  *     Q(i, j) is area[32 * j + 16 + i];   one is HUBQR_Q_ONE
  *   R is upper triangular, its first fifteen diagonal words are not negative, and Q times R is 2^43 times the input, within 2^44,
  *   which is two steps of the 16-bit input.
  *
  * Words used below
- *   turn number  How many of the 120 turns (rotations) have been made: 0 after hubqr_load, 120 when R and Q are finished. The
- *                caller keeps it beside the area and hands it to the next call; the area does not hold it. Another number than
- *                the one last answered for this area is not noticed and makes the words worthless.
- *   allowance    The most turns that one hubqr_run may make.
+ *   turn         One of the 120 rotations of two rows that make R and Q of a loaded matrix. Each makes its lower leading word 0.
+ *                Where that word is 0 already and the upper leading word is 0 or more, the turn is clear: it is skipped, and
+ *                leaves both rows as they are.
+ *   job          How far the work on an area is. `turn`, the turn number, says how many of the 120 turns are done, the skipped
+ *                ones included: 0 after hubqr_load, 120 when R and Q are finished. `made` says how many turns were truly made
+ *                since hubqr_load. That is what the work really cost: at most 120, for any matrix, and fewer where turns were
+ *                clear. hubqr_read answers the job (120, 0), since a result record does not tell what it cost.
+ *                The caller keeps the job beside the area and hands it to the next call; the area does not hold it. An area is
+ *                worked in step when each call is handed the job last answered for it. Another one is not noticed, unless test 5
+ *                sees it: another turn number makes the words worthless, and another `made` the count of turns made.
+ *   allowance    The most turns that one hubqr_run may go on by, the skipped ones included.
  *   clamps       How many words were cut to the 32-bit range, by side, since a cut word of Q harms the beam differently from one
  *                of R: `clamps_r` counts those of columns 0 to 15, which hold R, and `clamps_q` those of columns 16 to 31, which
  *                hold Q. Both are always 0 for an area that hubqr_load filled and that was worked in step; they are not 0 only
@@ -46,8 +53,8 @@
  *   A call answers by value: a struct, or the number alone where there is nothing else to answer. Each call tests what it is
  *   handed, in the order given with it. The reply's `number` is that of the first test that fails, or HUBQR_ACCEPTED. A refused
  *   call changes no word of the area and no byte of the buffer, and the other fields of its reply are 0, except that hubqr_run
- *   answers in `turn` the turn number it was handed, and hubqr_add_snapshot the sums it was handed. hubqr_base.h, which all
- *   headers include, lists the refusals; hubqr_refusal_words says a number in words.
+ *   answers the job it was handed, and hubqr_add_snapshot the sums it was handed. hubqr_base.h, which all headers include, lists
+ *   the refusals; hubqr_refusal_words says a number in words.
  *
  * Ownership and threads
  *   The caller owns every record, area and buffer, before, during and after a call. The library keeps no pointer, has no state of
@@ -97,11 +104,17 @@
 extern "C" {
 #endif
 
+/* How far the work on an area is. */
+struct hubqr_job {
+    uint32_t turn; /* the turn number: how many of the 120 turns are done, the skipped ones included */
+    uint32_t made; /* how many turns were truly made since Load */
+};
+
 /* What Load answers. */
 struct hubqr_load_reply {
-    uint8_t number; /* HUBQR_ACCEPTED, or the refusal */
-    uint8_t heard;  /* the heard byte, which is not 0; refused: 0 */
-    uint32_t turn;  /* the turn number to hand to the next call, which is 0 */
+    uint8_t number;       /* HUBQR_ACCEPTED, or the refusal */
+    uint8_t heard;        /* the heard byte, which is not 0; refused: 0 */
+    struct hubqr_job job; /* the job to hand to the next call, which is (0, 0) */
 };
 
 /*
@@ -113,32 +126,34 @@ struct hubqr_load_reply hubqr_load(const uint8_t *record, size_t record_len, int
 
 /* What Run answers. */
 struct hubqr_run_reply {
-    uint8_t number;    /* HUBQR_ACCEPTED, or the refusal */
-    uint32_t turn;     /* the turn number to hand to the next call; refused: the one that was handed over */
-    uint32_t count;    /* the turns made in this call */
-    uint32_t clamps_r; /* the clamps counted in this call in columns 0 to 15, which hold R */
-    uint32_t clamps_q; /* the clamps counted in this call in columns 16 to 31, which hold Q */
+    uint8_t number;       /* HUBQR_ACCEPTED, or the refusal */
+    struct hubqr_job job; /* the job to hand to the next call; refused: the one that was handed over */
+    uint32_t count;       /* the turns that this call went on by, the skipped ones included */
+    uint32_t clamps_r;    /* the clamps counted in this call in columns 0 to 15, which hold R */
+    uint32_t clamps_q;    /* the clamps counted in this call in columns 16 to 31, which hold Q */
 };
 
 /*
- * Run: makes the smaller of `allowance` and 120 - `turn` turns, from turn number `turn` on. Allowance 0 and turn number 120 are
- * no errors: no turn is made. Many Runs make of the area what one Run with the sum of their allowances makes of it.
- * Tests, in this order: 3, 5.
+ * Run: goes on by the smaller of `allowance` and 120 - `job.turn` turns, from turn number `job.turn` on. It makes those that are
+ * not clear and skips the others. The turn number grows by `count`, which includes the skipped turns, and `made` by the turns
+ * made. Allowance 0 and turn number 120 are no errors: no turn is made. Many Runs make of the area and of the job what one Run
+ * with the sum of their allowances makes of them.
+ * Tests, in this order: 3, 5, when `job.turn` is above 120 or `job.made` above `job.turn`.
  */
-struct hubqr_run_reply hubqr_run(uint32_t turn, uint16_t allowance, int32_t *area, size_t area_len)
+struct hubqr_run_reply hubqr_run(struct hubqr_job job, uint16_t allowance, int32_t *area, size_t area_len)
     HUBQR_REPLY HUBQR_CHANGES(3, 4);
 
 /*
  * Fetch: writes the result record into the first 2,049 bytes of the buffer. The area is only read. Answers the number.
  * Tests, in this order: 3, 5, 6, 7, 8. Test 8 never fails on an area that was loaded and worked in step.
  */
-uint8_t hubqr_fetch(uint32_t turn, const int32_t *area, size_t area_len, uint8_t *buffer, size_t buffer_len)
+uint8_t hubqr_fetch(struct hubqr_job job, const int32_t *area, size_t area_len, uint8_t *buffer, size_t buffer_len)
     HUBQR_REPLY HUBQR_READS(2, 3) HUBQR_FILLS(4, 5);
 
 /* What Read answers. */
 struct hubqr_read_reply {
-    uint8_t number; /* HUBQR_ACCEPTED, or the refusal */
-    uint32_t turn;  /* the turn number to hand to the next call, which is 120 */
+    uint8_t number;       /* HUBQR_ACCEPTED, or the refusal */
+    struct hubqr_job job; /* the job to hand to the next call, which is (120, 0); refused: (0, 0) */
 };
 
 /*

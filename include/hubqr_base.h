@@ -12,7 +12,7 @@
 
 /* The version of these headers. */
 #define HUBQR_VERSION_MAJOR 0
-#define HUBQR_VERSION_MINOR 6
+#define HUBQR_VERSION_MINOR 7
 #define HUBQR_VERSION_PATCH 0
 #define HUBQR_VERSION (10000 * HUBQR_VERSION_MAJOR + 100 * HUBQR_VERSION_MINOR + HUBQR_VERSION_PATCH)
 
@@ -67,7 +67,7 @@ extern "C" {
     X(HUBQR_WRONG_LENGTH, 2, "the record's length is not 257 bytes for a matrix or 2,049 bytes for a result")                  \
     X(HUBQR_AREA_TOO_SHORT, 3, "the area has fewer than 512 words")                                                            \
     X(HUBQR_NONE_HEARD, 4, "no antenna was heard: the real part of every diagonal element is 16 or less")                      \
-    X(HUBQR_NO_SUCH_TURN, 5, "the turn number is above 120")                                                                   \
+    X(HUBQR_NO_SUCH_JOB, 5, "the turn number is above 120, or less than the turns made")                                       \
     X(HUBQR_UNFINISHED, 6, "the turn number is under 120, so the result is not finished")                                      \
     X(HUBQR_BUFFER_TOO_SHORT, 7, "the buffer has fewer than 2,049 bytes for a result or 257 bytes for a matrix")               \
     X(HUBQR_NOT_TRIANGULAR, 8,                                                                                                 \

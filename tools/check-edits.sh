@@ -197,6 +197,7 @@ function check_function(what, of,   text, folder, place) {
     text = verdict[what]
     folder = folder_of(what)
     if (!alone(text, folder)) fault(of, "fn " what " was not refused by itself: " text)
+    if (text ~ /the borrow checker does not cover/) fault(of, "fn " what " as it is edited is not covered by the prover, which shows nothing of the program")
     for (place in unfit) if (index(place, "proofs/" folder "/") == 1) fault(of, unfit_text(place))
 }
 

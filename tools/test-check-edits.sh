@@ -41,6 +41,10 @@ program one 'fn: a::m::f' | edit one
 echo 'fn m::f: no proof: expected `f-spec` in proofs/m/f/Proof.antt; `search` does not close `returns`' | log one
 expect 0 'edits: 1 wrong programs'
 
+program one 'fn: f' | edit one
+echo 'fn f: no proof: expected `f-spec` in proofs/f/Proof.antt; the borrow checker does not cover this function yet: src/lib.rt:3:5' | log one
+expect 1 'one: fn a::f as it is edited is not covered by the prover'
+
 { program one 'fn: f' && program two 'fn: m::g'; } | edit both
 printf 'fn f: not proved\nfn m::g: not proved\nfn h: not proved; it calls `a::f` and `a::m::g`, which are not proved\n' | log both
 program three 'law: some-law' | edit three

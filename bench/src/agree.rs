@@ -1,12 +1,13 @@
 //! Before anything is timed: every contender answers what the engine answers, in every word and
-//! byte.
+//! byte, and makes as many turns.
 
+use hubqr::Job;
 use reference::cases::{edges, Kind};
 use reference::matrix::Matrix;
 use reference::random::Random;
 use reference::records::write_matrix;
 
-use crate::contenders::{Area, Buffer, Clamps, Contender, Record, ENGINE};
+use crate::contenders::{Area, Buffer, Clamps, Contender, Record, ENGINE, LOADED};
 use crate::doubles::{product_error, Comparator};
 use crate::inputs;
 
@@ -31,8 +32,10 @@ pub fn check(contender: &Contender, seed: u64) -> Result<(), String> {
     let mut random = Random::new(seed);
     for matrix in matrices(&mut random) {
         let record = write_matrix(&matrix);
-        let expected = at_once(&ENGINE, &record);
-        if at_once(contender, &record) != expected || in_parts(contender, &record) != expected {
+        let (job, expected) = in_parts(&ENGINE, &record);
+        if at_once(contender, &record) != expected
+            || in_parts(contender, &record) != (job, expected)
+        {
             return Err(format!(
                 "{} and the engine differ on {matrix:?}",
                 contender.name
@@ -88,31 +91,63 @@ fn at_once(contender: &Contender, record: &Record) -> Outcome {
     }
 }
 
-fn in_parts(contender: &Contender, record: &Record) -> Outcome {
+/// Answers the job at the end as well.
+fn in_parts(contender: &Contender, record: &Record) -> (Job, Outcome) {
     let (mut area, mut buffer) = ([0; 512], [0; 2049]);
     let heard = (contender.load)(record, &mut area);
-    let clamps = run_in_instalments(contender, &mut area);
+    let (job, clamps) = run_in_instalments(contender, &mut area);
     (contender.fetch)(&area, &mut buffer);
-    Outcome {
+    let outcome = Outcome {
         heard,
         clamps,
         area,
         buffer,
-    }
+    };
+    (job, outcome)
 }
 
-fn worked(contender: &Contender, mut words: Area) -> (Area, Clamps) {
-    let clamps = run_in_instalments(contender, &mut words);
-    (words, clamps)
+fn worked(contender: &Contender, mut words: Area) -> (Job, Clamps, Area) {
+    let (job, clamps) = run_in_instalments(contender, &mut words);
+    (job, clamps, words)
 }
 
-/// Answers the clamps of all instalments, by side.
-fn run_in_instalments(contender: &Contender, area: &mut Area) -> Clamps {
-    let mut clamps = Clamps::default();
-    for turn in (0..hubqr::TURNS).step_by(usize::from(INSTALMENT)) {
-        let more = (contender.run)(turn, INSTALMENT, area);
+/// Answers the job at the end, and the clamps of all instalments, by side.
+fn run_in_instalments(contender: &Contender, area: &mut Area) -> (Job, Clamps) {
+    let (mut job, mut clamps) = (LOADED, Clamps::default());
+    for _ in 0..hubqr::TURNS.div_ceil(INSTALMENT.into()) {
+        let (next, more) = (contender.run)(job, INSTALMENT, area);
+        job = next;
         clamps.r += more.r;
         clamps.q += more.q;
     }
-    clamps
+    (job, clamps)
+}
+
+#[cfg(test)]
+mod tests {
+    use super::*;
+
+    fn agrees(run: fn(Job, u16, &mut Area) -> (Job, Clamps)) -> bool {
+        let name = "tested";
+        let who = Contender {
+            name,
+            run,
+            ..ENGINE
+        };
+        check(&who, 1).is_ok()
+    }
+
+    #[test]
+    fn wrong_jobs_are_noticed() {
+        assert!(agrees(ENGINE.run));
+        assert!(!agrees(|job, allowance, area| {
+            let (job, clamps) = (ENGINE.run)(job, allowance, area);
+            let made = job.turn; // as if no turn were clear
+            (Job { made, ..job }, clamps)
+        }));
+        assert!(!agrees(|job, allowance, area| {
+            let (_, clamps) = (ENGINE.run)(job, allowance, area);
+            (job, clamps)
+        }));
+    }
 }

@@ -1,5 +1,8 @@
 //! Who is timed: implementations in whole numbers, which have to agree in every word and byte.
 
+use hubqr::Job;
+use reference::job::Job as ReferenceJob;
+
 use crate::versions;
 
 pub type Record = [u8; hubqr::MATRIX_RECORD_BYTES];
@@ -32,8 +35,9 @@ pub struct Contender {
     pub name: &'static str,
     /// Answers the heard byte.
     pub load: fn(&Record, &mut Area) -> u8,
-    /// Answers the clamps.
-    pub run: fn(u32, u16, &mut Area) -> Clamps,
+    /// Answers the job and the clamps.
+    pub run: fn(Job, u16, &mut Area) -> (Job, Clamps),
+    /// Takes an area of which all turns are done.
     pub fetch: fn(&Area, &mut Buffer),
     /// Answers the heard byte and the clamps.
     pub whole: fn(&Record, &mut Area, &mut Buffer) -> (u8, Clamps),
@@ -42,6 +46,15 @@ pub struct Contender {
 /// The version that all others are compared with.
 pub const BASE: Contender = versions::gcc_plain::CONTENDER;
 
+/// The job of an area that Load has filled.
+pub const LOADED: Job = Job { turn: 0, made: 0 };
+
+/// A job of an area of which all turns are done: Fetch takes any of them.
+pub const FINISHED: Job = Job {
+    turn: hubqr::TURNS,
+    made: 0,
+};
+
 /// Why no call is refused while it is timed.
 pub const ACCEPTED: &str = "the benchmark hands over accepted input only";
 
@@ -49,11 +62,11 @@ pub const ACCEPTED: &str = "the benchmark hands over accepted input only";
 pub const ENGINE: Contender = Contender {
     name: "engine",
     load: |record, area| hubqr::load(record, area).expect(ACCEPTED).heard,
-    run: |turn, allowance, area| {
-        let progress = hubqr::run(turn, allowance, area).expect(ACCEPTED);
-        progress.clamps.into()
+    run: |job, allowance, area| {
+        let progress = hubqr::run(job, allowance, area).expect(ACCEPTED);
+        (progress.job, progress.clamps.into())
     },
-    fetch: |area, buffer| hubqr::fetch(hubqr::TURNS, area, buffer).expect(ACCEPTED),
+    fetch: |area, buffer| hubqr::fetch(FINISHED, area, buffer).expect(ACCEPTED),
     whole: |record, area, buffer| {
         let factored = hubqr::whole(record, area, buffer).expect(ACCEPTED);
         (factored.heard, factored.clamps.into())
@@ -64,9 +77,14 @@ pub const ENGINE: Contender = Contender {
 const REFERENCE: Contender = Contender {
     name: "reference, Rust",
     load: |record, area| reference::calls::load(record, area).heard,
-    run: |turn, allowance, area| reference::calls::run(turn, allowance, area).clamps.into(),
+    run: |Job { turn, made }, allowance, area| {
+        let reply = reference::calls::run(ReferenceJob { turn, made }, allowance, area);
+        let ReferenceJob { turn, made } = reply.job;
+        (Job { turn, made }, reply.clamps.into())
+    },
     fetch: |area, buffer| {
-        reference::calls::fetch(hubqr::TURNS, area, buffer);
+        let Job { turn, made } = FINISHED;
+        reference::calls::fetch(ReferenceJob { turn, made }, area, buffer);
     },
     whole: |record, area, buffer| {
         let reply = reference::calls::whole(record, area, buffer);

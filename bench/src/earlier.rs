@@ -1,8 +1,9 @@
 //! An earlier archive of the engine, whose calls `build.rs` gave other names.
 
 use hubqr::ffi::{AddReply, LoadReply, RunReply, Snapshot, Sums, WeightsReply, WholeReply};
+use hubqr::Job;
 
-use crate::contenders::{Area, Buffer, Clamps, Contender, Record};
+use crate::contenders::{Area, Buffer, Clamps, Contender, Record, FINISHED};
 use crate::covariance::implementations::ByValue;
 use crate::weights::contenders::Contender as WeightsContender;
 
@@ -14,9 +15,9 @@ extern "C" {
         area: &mut Area,
         area_len: usize,
     ) -> LoadReply;
-    fn earlier_hubqr_run(turn: u32, allowance: u16, area: &mut Area, area_len: usize) -> RunReply;
+    fn earlier_hubqr_run(job: Job, allowance: u16, area: &mut Area, area_len: usize) -> RunReply;
     fn earlier_hubqr_fetch(
-        turn: u32,
+        job: Job,
         area: &Area,
         area_len: usize,
         buffer: &mut Buffer,
@@ -59,8 +60,9 @@ pub const WEIGHTS: WeightsContender = WeightsContender {
     },
 };
 
-/// Says so where the earlier archive's replies may be others than those that are declared here, or go
-/// by other rules, as the heard byte may. The patch is what versions of the same face differ in.
+/// Says so where the earlier archive's calls and replies may be others than those that are declared
+/// here, or go by other rules, as the heard byte and a clear turn may. The patch is what versions of
+/// the same face differ in.
 pub fn check_face() -> Result<(), String> {
     // SAFETY: the call takes nothing.
     let earlier = unsafe { earlier_hubqr_version() };
@@ -83,16 +85,17 @@ fn load(record: &Record, area: &mut Area) -> u8 {
     reply.heard
 }
 
-fn run(turn: u32, allowance: u16, area: &mut Area) -> Clamps {
-    let reply = unsafe { earlier_hubqr_run(turn, allowance, area, area.len()) };
-    Clamps {
+fn run(job: Job, allowance: u16, area: &mut Area) -> (Job, Clamps) {
+    let reply = unsafe { earlier_hubqr_run(job, allowance, area, area.len()) };
+    let clamps = Clamps {
         r: reply.clamps_r,
         q: reply.clamps_q,
-    }
+    };
+    (reply.job, clamps)
 }
 
 fn fetch(area: &Area, buffer: &mut Buffer) {
-    unsafe { earlier_hubqr_fetch(hubqr::TURNS, area, area.len(), buffer, buffer.len()) };
+    unsafe { earlier_hubqr_fetch(FINISHED, area, area.len(), buffer, buffer.len()) };
 }
 
 fn whole(record: &Record, area: &mut Area, buffer: &mut Buffer) -> (u8, Clamps) {

@@ -3,6 +3,7 @@
 use hubqr::ffi::Snapshot;
 use hubqr::Sample;
 use reference::cases::Kind;
+use reference::matrix::{Complex, Matrix};
 use reference::random::Random;
 use reference::records::write_matrix;
 
@@ -11,6 +12,28 @@ use crate::contenders::{Area, Record};
 /// A matrix record with any parts. An antenna is heard in it, so that Load and Whole accept it.
 pub fn record(random: &mut Random) -> Record {
     write_matrix(&Kind::FullRange.matrix(random))
+}
+
+/// The same with nothing in the columns of antennas 4 to 7.
+pub fn half_empty(random: &mut Random) -> Record {
+    loop {
+        let full = Kind::FullRange.matrix(random);
+        let half = Matrix::from_fn(|i, j| match j {
+            0..4 => full.element(i, j),
+            _ => Complex::ZERO,
+        });
+        if !half.none_heard() {
+            return write_matrix(&half);
+        }
+    }
+}
+
+/// The record of the matrix with (32767, 0) on its diagonal and nothing elsewhere.
+pub fn diagonal() -> Record {
+    write_matrix(&Matrix::from_fn(|i, j| match i == j {
+        true => Complex::new(i16::MAX, 0),
+        false => Complex::ZERO,
+    }))
 }
 
 /// An area of any words, which no Load could have filled.

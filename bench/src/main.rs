@@ -4,6 +4,7 @@
 mod agree;
 mod clock;
 mod contenders;
+mod costs;
 mod covariance;
 mod doubles;
 #[cfg(earlier)]
@@ -93,6 +94,7 @@ fn print(options: &Options, results: &Results) {
     section("Nine of ten rounds", report::spreads(results));
     section("Run from turn number 0", report::growth(results));
     section("Calls and Whole", report::shares(results));
+    println!("{}\n", emptier(options.seed));
 }
 
 fn print_covariance(options: &Options, results: &covariance::rounds::Results) {
@@ -122,6 +124,16 @@ fn fallback(seed: u64) -> String {
         "Fallback is Run with allowance 120 on arbitrary words: {arbitrary:.1} of the 120 \
          rotations have a column with u^2 + v^2 above 2^60 + 2^44. On loaded matrices {loaded:.1} \
          have one."
+    )
+}
+
+/// What the emptier matrices are like, and what they cost.
+fn emptier(seed: u64) -> String {
+    let [full, half_empty, diagonal] = costs::rotations_made(seed);
+    format!(
+        "Half-empty has nothing in the columns of antennas 4 to 7, diagonal has (32767, 0) on the \
+         diagonal and nothing elsewhere. Of the 120 rotations, {full:.1} are made of a full matrix, \
+         {half_empty:.1} of a half-empty one and {diagonal:.1} of the diagonal."
     )
 }
 

@@ -5,7 +5,7 @@ use std::time::Instant;
 
 use reference::random::Random;
 
-use crate::contenders::{Area, Buffer, Contender, Record, ENGINE};
+use crate::contenders::{Area, Buffer, Contender, Record, ENGINE, LOADED};
 use crate::doubles::Comparator;
 use crate::{inputs, timed};
 
@@ -23,6 +23,10 @@ pub enum Measure {
     Run(u16),
     Load,
     Fetch,
+    /// Whole of a matrix of which half is empty.
+    HalfEmpty,
+    /// Whole of a matrix that has nothing but a diagonal.
+    Diagonal,
 }
 
 impl Measure {
@@ -32,6 +36,7 @@ impl Measure {
         let mut all = vec![Measure::Whole, Measure::Rotation, Measure::Arbitrary];
         all.extend(Measure::ALLOWANCES.map(Measure::Run));
         all.extend([Measure::Load, Measure::Fetch]);
+        all.extend([Measure::HalfEmpty, Measure::Diagonal]);
         all
     }
 
@@ -40,7 +45,17 @@ impl Measure {
     fn batch(self) -> usize {
         match self {
             Measure::Whole | Measure::Rotation | Measure::Arbitrary | Measure::Run(60..) => 4,
-            Measure::Run(_) | Measure::Load | Measure::Fetch => 16,
+            Measure::HalfEmpty => 4,
+            Measure::Run(_) | Measure::Load | Measure::Fetch | Measure::Diagonal => 16,
+        }
+    }
+
+    /// The record that an input starts from.
+    fn record(self, random: &mut Random) -> Record {
+        match self {
+            Measure::HalfEmpty => inputs::half_empty(random),
+            Measure::Diagonal => inputs::diagonal(),
+            _ => inputs::record(random),
         }
     }
 
@@ -48,12 +63,12 @@ impl Measure {
     fn area(self, record: &Record, random: &mut Random) -> Area {
         let mut area = [0; hubqr::AREA_WORDS];
         match self {
-            Measure::Whole | Measure::Load => {}
+            Measure::Whole | Measure::HalfEmpty | Measure::Diagonal | Measure::Load => {}
             Measure::Arbitrary => area = inputs::words(random),
             Measure::Rotation | Measure::Run(_) => _ = (ENGINE.load)(record, &mut area),
             Measure::Fetch => {
                 (ENGINE.load)(record, &mut area);
-                (ENGINE.run)(0, TURNS, &mut area);
+                (ENGINE.run)(LOADED, TURNS, &mut area);
             }
         }
         area
@@ -62,14 +77,17 @@ impl Measure {
     /// Does it on one input, and answers how often.
     fn work(self, who: &Contender, record: &Record, area: &mut Area, buffer: &mut Buffer) -> u32 {
         match self {
-            Measure::Whole => _ = (who.whole)(record, area, buffer),
-            Measure::Arbitrary => _ = (who.run)(0, TURNS, area),
-            Measure::Run(allowance) => _ = (who.run)(0, allowance, area),
+            Measure::Whole | Measure::HalfEmpty | Measure::Diagonal => {
+                (who.whole)(record, area, buffer);
+            }
+            Measure::Arbitrary => _ = (who.run)(LOADED, TURNS, area),
+            Measure::Run(allowance) => _ = (who.run)(LOADED, allowance, area),
             Measure::Load => _ = (who.load)(record, area),
             Measure::Fetch => (who.fetch)(area, buffer),
             Measure::Rotation => {
-                for turn in 0..hubqr::TURNS {
-                    (who.run)(turn, 1, area);
+                let mut job = LOADED;
+                for _ in 0..hubqr::TURNS {
+                    (job, _) = (who.run)(job, 1, area);
                 }
                 return hubqr::TURNS;
             }
@@ -87,7 +105,7 @@ pub struct Batch {
 impl Batch {
     pub fn fresh(measure: Measure, random: &mut Random) -> Self {
         let input = |_| {
-            let record = inputs::record(random);
+            let record = measure.record(random);
             (record, measure.area(&record, random))
         };
         Batch {

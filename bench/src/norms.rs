@@ -4,7 +4,7 @@
 use reference::random::Random;
 use reference::schedule::{self, Turn};
 
-use crate::contenders::{Area, ENGINE};
+use crate::contenders::{Area, ENGINE, LOADED};
 use crate::inputs;
 
 const AREAS: usize = 50;
@@ -27,10 +27,10 @@ pub fn rotations_outside(seed: u64) -> (f64, f64) {
 }
 
 fn count_outside(mut area: Area) -> usize {
-    let mut count = 0;
-    for (number, turn) in schedule::turns().into_iter().enumerate() {
+    let (mut job, mut count) = (LOADED, 0);
+    for turn in schedule::turns() {
         count += usize::from(is_outside(&area, turn));
-        (ENGINE.run)(number as u32, 1, &mut area);
+        (job, _) = (ENGINE.run)(job, 1, &mut area);
     }
     count
 }

@@ -103,7 +103,7 @@ pub fn growth(results: &Results) -> Table {
     table
 }
 
-/// What each call takes of Whole's time.
+/// What each call takes of Whole's time, and Whole itself on emptier matrices.
 pub fn shares(results: &Results) -> Table {
     let mut table = Table::new(&["call", "engine, ns", "of Whole", "C plain, ns", "ratio"]);
     let whole = results.nanoseconds(ENGINE.name, Measure::Whole);
@@ -112,6 +112,8 @@ pub fn shares(results: &Results) -> Table {
         ("Run, allowance 120", Measure::Run(120)),
         ("Fetch", Measure::Fetch),
         ("Whole", Measure::Whole),
+        ("Whole, half-empty", Measure::HalfEmpty),
+        ("Whole, diagonal", Measure::Diagonal),
     ] {
         let engine = results.nanoseconds(ENGINE.name, measure);
         let share = engine.zip(whole).map(|(part, whole)| 100.0 * part / whole);

@@ -1,6 +1,15 @@
 //! The versions in C, as `build.rs` compiled them.
 
+use hubqr::Job;
+
 use crate::contenders::{Clamps, Contender};
+
+/// What Run of a version in C answers.
+#[repr(C)]
+pub struct RunReply {
+    job: Job,
+    clamps: Clamps,
+}
 
 /// What Whole of a version in C answers.
 #[repr(C)]
@@ -14,14 +23,14 @@ pub struct WholeReply {
 macro_rules! version {
     ($version:ident, $name:literal) => {
         pub mod $version {
-            use super::WholeReply;
-            use crate::contenders::{Area, Buffer, Clamps, Contender, Record};
+            use super::{Job, RunReply, WholeReply};
+            use crate::contenders::{Area, Buffer, Contender, Record};
 
             extern "C" {
                 #[link_name = concat!(stringify!($version), "_load")]
                 fn load(record: &Record, area: &mut Area) -> u8;
                 #[link_name = concat!(stringify!($version), "_run")]
-                fn run(turn: u32, allowance: u16, area: &mut Area) -> Clamps;
+                fn run(job: Job, allowance: u16, area: &mut Area) -> RunReply;
                 #[link_name = concat!(stringify!($version), "_fetch")]
                 fn fetch(area: &Area, buffer: &mut Buffer);
                 #[link_name = concat!(stringify!($version), "_whole")]
@@ -32,8 +41,10 @@ macro_rules! version {
             pub const CONTENDER: Contender = Contender {
                 name: $name,
                 load: |record, area| unsafe { load(record, area) },
-                run: |turn, allowance, area| unsafe {
-                    run(turn.min(hubqr::TURNS), allowance, area)
+                run: |Job { turn, made }, allowance, area| {
+                    let turn = turn.min(hubqr::TURNS);
+                    let reply = unsafe { run(Job { turn, made }, allowance, area) };
+                    (reply.job, reply.clamps)
                 },
                 fetch: |area, buffer| unsafe { fetch(area, buffer) },
                 whole: |record, area, buffer| {

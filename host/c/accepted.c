@@ -23,12 +23,14 @@ static int32_t real_entry(int i, int j)
     return i < 8 ? -part(i, j - 8, 2) : part(i - 8, j, 2);
 }
 
-static void load_matrix(void)
+/* Loads the matrix. Returns the job. */
+static struct hubqr_job load_matrix(void)
 {
     struct hubqr_load_reply loaded = hubqr_load(matrix, sizeof matrix, area, AREA_LENT);
     CHECK("Load", loaded.number == HUBQR_ACCEPTED);
-    CHECK("Load answers turn number 0", loaded.turn == 0);
+    CHECK("Load answers the job (0, 0)", is_job(loaded.job, 0, 0));
     CHECK("Load answers the heard byte", loaded.heard == MATRIX_HEARD);
+    return loaded.job;
 }
 
 static void test_load(void)
@@ -48,28 +50,30 @@ static void test_load(void)
     CHECK("Load leaves what is behind 512 words", guards_unchanged());
 }
 
-/* Runs from turn 0 to the end with the same allowance in each call. */
-static void run_all(uint16_t allowance)
+/* Runs to the end with the same allowance in each call. Returns the job. */
+static struct hubqr_job run_all(struct hubqr_job job, uint16_t allowance)
 {
-    uint32_t turn = 0;
-    while (turn < HUBQR_TURNS) {
-        uint32_t left = HUBQR_TURNS - turn;
+    while (job.turn < HUBQR_TURNS) {
+        uint32_t left = HUBQR_TURNS - job.turn;
         uint32_t due = allowance < left ? allowance : left;
-        struct hubqr_run_reply ran = hubqr_run(turn, allowance, area, AREA_LENT);
+        struct hubqr_run_reply ran = hubqr_run(job, allowance, area, AREA_LENT);
         CHECK("Run", ran.number == HUBQR_ACCEPTED);
-        CHECK("Run makes the smaller of allowance and turns left", ran.count == due && ran.turn == turn + due);
+        CHECK("Run goes on by the smaller of allowance and turns left", ran.count == due && ran.job.turn == job.turn + due);
+        CHECK("Run makes no more turns than that", ran.job.made >= job.made && ran.job.made <= job.made + due);
         CHECK("Run of a loaded area counts no clamp", ran.clamps_r == 0 && ran.clamps_q == 0);
-        turn = ran.turn;
+        job = ran.job;
     }
+    return job;
 }
 
-/* A Run that makes no turn: nothing changes and the turn number stays. */
-static void run_none(const char *what, uint32_t turn, uint16_t allowance)
+/* A Run that goes on by no turn: nothing changes and the job stays. */
+static void run_none(const char *what, uint32_t turn, uint32_t made, uint16_t allowance)
 {
+    struct hubqr_job job = {turn, made};
     remember();
-    struct hubqr_run_reply ran = hubqr_run(turn, allowance, area, AREA_LENT);
-    CHECK(what, ran.number == HUBQR_ACCEPTED);
-    CHECK(what, ran.turn == turn && ran.count == 0 && ran.clamps_r == 0 && ran.clamps_q == 0);
+    struct hubqr_run_reply ran = hubqr_run(job, allowance, area, AREA_LENT);
+    CHECK(what, ran.number == HUBQR_ACCEPTED && is_job(ran.job, turn, made));
+    CHECK(what, ran.count == 0 && ran.clamps_r == 0 && ran.clamps_q == 0);
     CHECK(what, unchanged());
 }
 
@@ -77,37 +81,45 @@ static void test_run(void)
 {
     static const uint16_t allowances[] = {1, 7, 119, 120, 121, 65535};
     static int32_t first[HUBQR_AREA_WORDS];
+    uint32_t made = 0;
     for (size_t k = 0; k < sizeof allowances / sizeof *allowances; k++) {
         scribble();
         remember();
-        load_matrix();
-        run_all(allowances[k]);
+        struct hubqr_job job = run_all(load_matrix(), allowances[k]);
         CHECK("Run leaves what is behind 512 words", guards_unchanged());
         if (k == 0) {
             memcpy(first, area, sizeof first);
+            made = job.made;
         }
-        CHECK("instalments make no difference", memcmp(area, first, sizeof first) == 0);
+        CHECK("instalments make no difference", memcmp(area, first, sizeof first) == 0 && is_job(job, HUBQR_TURNS, made));
     }
-    run_none("Run at 120", HUBQR_TURNS, 65535);
-    run_none("Run with allowance 0", 60, 0);
+    run_none("Run at 120", HUBQR_TURNS, made, 65535);
+    run_none("Run at 120 with none made", HUBQR_TURNS, 0, 65535);
+    run_none("Run at 120 with all made", HUBQR_TURNS, HUBQR_TURNS, 65535);
+    run_none("Run with allowance 0", 60, 0, 0);
+    run_none("Run with allowance 0 and all made", 60, 60, 0);
 }
 
-/* The last turn, which is column 14, rows 14 and 15, made of the given leading pair and of 0 elsewhere. */
+/* Before the last turn, with all others made. */
+static const struct hubqr_job before_last = {HUBQR_TURNS - 1, HUBQR_TURNS - 1};
+
+/* The last turn, which is column 14, rows 14 and 15, of the given leading pair and of 0 elsewhere. */
 static void last_turn(int32_t upper, int32_t lower, int32_t expected)
 {
     int32_t *up = area + HUBQR_AREA_COLUMNS * 14 + 14, *low = area + HUBQR_AREA_COLUMNS * 15 + 14;
     memset(area, 0, sizeof area);
     *up = upper;
     *low = lower;
-    struct hubqr_run_reply ran = hubqr_run(119, 1, area, AREA_LENT);
-    CHECK("last turn", ran.number == HUBQR_ACCEPTED);
-    CHECK("last turn", ran.turn == HUBQR_TURNS && ran.count == 1 && ran.clamps_r == 0 && ran.clamps_q == 0);
+    struct hubqr_run_reply ran = hubqr_run(before_last, 1, area, AREA_LENT);
+    CHECK("last turn", ran.number == HUBQR_ACCEPTED && ran.job.turn == HUBQR_TURNS);
+    CHECK("last turn", ran.count == 1 && ran.clamps_r == 0 && ran.clamps_q == 0);
     CHECK("leading pair of the last turn", *up == expected && *low == 0);
 }
 
+/* The first pair is clear and stays. */
 static void test_turn_values(void)
 {
-    last_turn(1, 0, 17);
+    last_turn(1, 0, 1);
     last_turn(0, 1, 1);
     last_turn(-1, 0, 17);
 }
@@ -133,8 +145,8 @@ static void clamp_columns(const char *what, int first, int end, uint32_t clamps_
         int32_t clamped = sign < 0 ? INT32_MIN : INT32_MAX;
         int stored = 1;
         fill_rows(first, end, sign);
-        struct hubqr_run_reply ran = hubqr_run(119, 1, area, AREA_LENT);
-        CHECK(what, ran.number == HUBQR_ACCEPTED && ran.turn == HUBQR_TURNS && ran.count == 1);
+        struct hubqr_run_reply ran = hubqr_run(before_last, 1, area, AREA_LENT);
+        CHECK(what, ran.number == HUBQR_ACCEPTED && ran.count == 1 && is_job(ran.job, HUBQR_TURNS, HUBQR_TURNS));
         CHECK(what, ran.clamps_r == clamps_r && ran.clamps_q == clamps_q);
         for (int column = 15; column < HUBQR_AREA_COLUMNS; column++) {
             stored &= (longer[column] == clamped) == (column >= first && column < end);
@@ -167,10 +179,9 @@ static void test_fetch(void)
 {
     int words_right = 1;
     scribble();
-    load_matrix();
-    run_all(120);
+    struct hubqr_job job = run_all(load_matrix(), 120);
     remember();
-    CHECK("Fetch", hubqr_fetch(HUBQR_TURNS, area, AREA_LENT, buffer, BUFFER_LENT) == HUBQR_ACCEPTED);
+    CHECK("Fetch", hubqr_fetch(job, area, AREA_LENT, buffer, BUFFER_LENT) == HUBQR_ACCEPTED);
     CHECK("Fetch leaves what is behind 2,049 bytes", guards_unchanged());
     CHECK("Fetch writes the kind byte", buffer[0] == HUBQR_KIND_RESULT);
     for (int i = 0; i < HUBQR_AREA_ROWS; i++) {
@@ -193,9 +204,9 @@ static void test_read(void)
     remember();
     struct hubqr_read_reply restored = hubqr_read(record, sizeof record, area, AREA_LENT);
     CHECK("Read", restored.number == HUBQR_ACCEPTED);
-    CHECK("Read answers turn number 120", restored.turn == HUBQR_TURNS);
+    CHECK("Read answers the job (120, 0)", is_job(restored.job, 120, 0));
     CHECK("Read fills all 512 words", memcmp(area, fetched, sizeof fetched) == 0);
-    CHECK("Fetch of what was read", hubqr_fetch(restored.turn, area, AREA_LENT, buffer, BUFFER_LENT) == HUBQR_ACCEPTED);
+    CHECK("Fetch of what was read", hubqr_fetch(restored.job, area, AREA_LENT, buffer, BUFFER_LENT) == HUBQR_ACCEPTED);
     CHECK("Fetch writes the record that was read", memcmp(buffer, record, sizeof record) == 0);
     CHECK("Read and Fetch leave what is behind", guards_unchanged());
 }
@@ -242,9 +253,9 @@ static void test_exact_sizes(void)
     make_matrix(record);
     struct hubqr_load_reply loaded = hubqr_load(record, HUBQR_MATRIX_RECORD_BYTES, words, HUBQR_AREA_WORDS);
     CHECK("Load", loaded.number == HUBQR_ACCEPTED);
-    struct hubqr_run_reply ran = hubqr_run(loaded.turn, 120, words, HUBQR_AREA_WORDS);
+    struct hubqr_run_reply ran = hubqr_run(loaded.job, 120, words, HUBQR_AREA_WORDS);
     CHECK("Run", ran.number == HUBQR_ACCEPTED);
-    CHECK("Fetch", hubqr_fetch(ran.turn, words, HUBQR_AREA_WORDS, result, HUBQR_RESULT_RECORD_BYTES) == HUBQR_ACCEPTED);
+    CHECK("Fetch", hubqr_fetch(ran.job, words, HUBQR_AREA_WORDS, result, HUBQR_RESULT_RECORD_BYTES) == HUBQR_ACCEPTED);
     CHECK("same record as in longer lent memory", memcmp(result, buffer, HUBQR_RESULT_RECORD_BYTES) == 0);
     CHECK("Read", hubqr_read(result, HUBQR_RESULT_RECORD_BYTES, words, HUBQR_AREA_WORDS).number == HUBQR_ACCEPTED);
     CHECK("Whole", hubqr_whole(record, HUBQR_MATRIX_RECORD_BYTES, words, HUBQR_AREA_WORDS, result, HUBQR_RESULT_RECORD_BYTES)

@@ -54,6 +54,11 @@ int guards_unchanged(void)
            memcmp(buffer + HUBQR_RESULT_RECORD_BYTES, buffer_before + HUBQR_RESULT_RECORD_BYTES, GUARDS) == 0;
 }
 
+int is_job(struct hubqr_job job, uint32_t turn, uint32_t made)
+{
+    return job.turn == turn && job.made == made;
+}
+
 /* An accepted call may write all but the guards. */
 static int rightly_changed(uint8_t number)
 {
@@ -66,7 +71,7 @@ void check_heard(const char *what, const uint8_t record[HUBQR_MATRIX_RECORD_BYTE
     scribble();
     remember();
     struct hubqr_load_reply loaded = hubqr_load(record, HUBQR_MATRIX_RECORD_BYTES, area, AREA_LENT);
-    CHECK(what, loaded.number == number && loaded.heard == heard && loaded.turn == 0);
+    CHECK(what, loaded.number == number && loaded.heard == heard && is_job(loaded.job, 0, 0));
     CHECK(what, rightly_changed(number));
     struct hubqr_whole_reply factored = hubqr_whole(record, HUBQR_MATRIX_RECORD_BYTES, area, AREA_LENT, buffer, BUFFER_LENT);
     CHECK(what, factored.number == number && factored.heard == heard);

@@ -36,14 +36,18 @@ void make_equal(uint8_t record[HUBQR_MATRIX_RECORD_BYTES], int16_t part);
 /* Sets element (row, column) of a matrix record. */
 void set_element(uint8_t *record, int row, int column, int16_t real, int16_t imaginary);
 
+/* Whether a job has this turn number and this count of turns made. */
+int is_job(struct hubqr_job job, uint32_t turn, uint32_t made);
+
 /*
  * Load and Whole answer this heard byte for a matrix record. With 0, both refuse it with number 4 and change nothing; otherwise
- * both accept it.
+ * both accept it. Load answers the job (0, 0) in either case.
  */
 void check_heard(const char *what, const uint8_t record[HUBQR_MATRIX_RECORD_BYTES], uint8_t heard);
 
 void test_face(void);
 void test_accepted(void);
+void test_job(void);
 void test_heard(void);
 void test_refused(void);
 void test_covariance(void);

@@ -1,55 +1,8 @@
 /* What the headers say by themselves: sizes and places that the archive was compiled with, the version, the refusals in words. */
 #include "check.h"
+#include "layout.h"
 
 #include <string.h>
-
-#define SIZE(type, bytes) _Static_assert(sizeof(struct type) == (bytes), "size of struct " #type)
-#define PLACE(type, field, offset) _Static_assert(offsetof(struct type, field) == (offset), "place of " #type "." #field)
-
-SIZE(hubqr_load_reply, 8);
-PLACE(hubqr_load_reply, number, 0);
-PLACE(hubqr_load_reply, heard, 1);
-PLACE(hubqr_load_reply, turn, 4);
-
-SIZE(hubqr_run_reply, 20);
-PLACE(hubqr_run_reply, number, 0);
-PLACE(hubqr_run_reply, turn, 4);
-PLACE(hubqr_run_reply, count, 8);
-PLACE(hubqr_run_reply, clamps_r, 12);
-PLACE(hubqr_run_reply, clamps_q, 16);
-
-SIZE(hubqr_read_reply, 8);
-PLACE(hubqr_read_reply, number, 0);
-PLACE(hubqr_read_reply, turn, 4);
-
-SIZE(hubqr_whole_reply, 12);
-PLACE(hubqr_whole_reply, number, 0);
-PLACE(hubqr_whole_reply, heard, 1);
-PLACE(hubqr_whole_reply, clamps_r, 4);
-PLACE(hubqr_whole_reply, clamps_q, 8);
-
-SIZE(hubqr_sample, 4);
-PLACE(hubqr_sample, re, 0);
-PLACE(hubqr_sample, im, 2);
-
-SIZE(hubqr_snapshot, 32);
-PLACE(hubqr_snapshot, samples, 0);
-
-SIZE(hubqr_sums, 1032);
-PLACE(hubqr_sums, count, 0);
-PLACE(hubqr_sums, words, 8);
-
-SIZE(hubqr_add_reply, 1040);
-PLACE(hubqr_add_reply, number, 0);
-PLACE(hubqr_add_reply, sums, 8);
-
-SIZE(hubqr_weight, 16);
-PLACE(hubqr_weight, re, 0);
-PLACE(hubqr_weight, im, 8);
-
-SIZE(hubqr_weights_reply, 136);
-PLACE(hubqr_weights_reply, number, 0);
-PLACE(hubqr_weights_reply, weights, 8);
 
 _Static_assert(HUBQR_VERSION_MINOR < 100 && HUBQR_VERSION_PATCH < 100, "two digits each in HUBQR_VERSION");
 _Static_assert(HUBQR_AREA_ROWS * HUBQR_AREA_COLUMNS == HUBQR_AREA_WORDS, "the area's shape");
@@ -72,6 +25,8 @@ static void test_words(void)
     CHECK("words of 0", strcmp(hubqr_refusal_words(HUBQR_ACCEPTED), "accepted") == 0);
     CHECK("words of 4", strcmp(hubqr_refusal_words(HUBQR_NONE_HEARD),
                                "no antenna was heard: the real part of every diagonal element is 16 or less") == 0);
+    CHECK("words of 5", strcmp(hubqr_refusal_words(HUBQR_NO_SUCH_JOB),
+                               "the turn number is above 120, or less than the turns made") == 0);
     CHECK("words of 11", strcmp(hubqr_refusal_words(HUBQR_ZERO_DIAGONAL), "one of R's 16 diagonal words is 0") == 0);
     for (int k = 0; k < REFUSALS; k++) {
         CHECK("refusals are numbered from 1 on", numbers[k] == k + 1);

@@ -23,32 +23,32 @@ struct handed {
     size_t area_len;
     uint8_t *buffer;
     size_t buffer_len;
-    uint32_t turn;
+    struct hubqr_job job;
     uint8_t number;
 };
 
 static void refuse_load(const struct handed *h)
 {
     struct hubqr_load_reply reply = hubqr_load(h->record, h->record_len, h->area, h->area_len);
-    CHECK(h->what, reply.number == h->number && reply.turn == 0 && reply.heard == 0);
+    CHECK(h->what, reply.number == h->number && reply.heard == 0 && is_job(reply.job, 0, 0));
 }
 
 static void refuse_run(const struct handed *h)
 {
-    struct hubqr_run_reply reply = hubqr_run(h->turn, 120, h->area, h->area_len);
-    CHECK(h->what, reply.number == h->number && reply.turn == h->turn && reply.count == 0);
-    CHECK(h->what, reply.clamps_r == 0 && reply.clamps_q == 0);
+    struct hubqr_run_reply reply = hubqr_run(h->job, 120, h->area, h->area_len);
+    CHECK(h->what, reply.number == h->number && is_job(reply.job, h->job.turn, h->job.made));
+    CHECK(h->what, reply.count == 0 && reply.clamps_r == 0 && reply.clamps_q == 0);
 }
 
 static void refuse_fetch(const struct handed *h)
 {
-    CHECK(h->what, hubqr_fetch(h->turn, h->area, h->area_len, h->buffer, h->buffer_len) == h->number);
+    CHECK(h->what, hubqr_fetch(h->job, h->area, h->area_len, h->buffer, h->buffer_len) == h->number);
 }
 
 static void refuse_read(const struct handed *h)
 {
     struct hubqr_read_reply reply = hubqr_read(h->record, h->record_len, h->area, h->area_len);
-    CHECK(h->what, reply.number == h->number && reply.turn == 0);
+    CHECK(h->what, reply.number == h->number && is_job(reply.job, 0, 0));
 }
 
 static void refuse_whole(const struct handed *h)
@@ -72,24 +72,24 @@ static void refuse_all(void (*call)(const struct handed *), const struct handed 
 static void test_load(void)
 {
     static const struct handed table[] = {
-        {"Load of a null record", NULL, 0, area, 512, NULL, 0, 0, HUBQR_WRONG_KIND},
-        {"Load of an empty record", matrix, 0, area, 512, NULL, 0, 0, HUBQR_WRONG_KIND},
-        {"Load of a result record", result, 2049, area, 512, NULL, 0, 0, HUBQR_WRONG_KIND},
-        {"Load of kind 03, 256 bytes", other_kind, 256, area, 512, NULL, 0, 0, HUBQR_WRONG_KIND},
-        {"Load of 1 byte", matrix, 1, area, 512, NULL, 0, 0, HUBQR_WRONG_LENGTH},
-        {"Load of 256 bytes", matrix, 256, area, 512, NULL, 0, 0, HUBQR_WRONG_LENGTH},
-        {"Load of 258 bytes", matrix, 258, area, 512, NULL, 0, 0, HUBQR_WRONG_LENGTH},
-        {"Load of 256 bytes, 511 words", matrix, 256, area, 511, NULL, 0, 0, HUBQR_WRONG_LENGTH},
-        {"Load into 511 words", matrix, 257, area, 511, NULL, 0, 0, HUBQR_AREA_TOO_SHORT},
-        {"Load into a null area", matrix, 257, NULL, 0, NULL, 0, 0, HUBQR_AREA_TOO_SHORT},
-        {"Load of zeros into 511 words", zeros, 257, area, 511, NULL, 0, 0, HUBQR_AREA_TOO_SHORT},
-        {"Load of zeros", zeros, 257, area, 512, NULL, 0, 0, HUBQR_NONE_HEARD},
-        {"Load of a hum of kind 03", other_hum, 257, area, 512, NULL, 0, 0, HUBQR_WRONG_KIND},
-        {"Load of 256 bytes of a hum", hum, 256, area, 512, NULL, 0, 0, HUBQR_WRONG_LENGTH},
-        {"Load of 258 bytes of a hum", hum, 258, area, 512, NULL, 0, 0, HUBQR_WRONG_LENGTH},
-        {"Load of a hum into 511 words", hum, 257, area, 511, NULL, 0, 0, HUBQR_AREA_TOO_SHORT},
-        {"Load of a hum", hum, 257, area, 512, NULL, 0, 0, HUBQR_NONE_HEARD},
-        {"Load of nothing into nothing", NULL, 0, NULL, 0, NULL, 0, 0, HUBQR_WRONG_KIND},
+        {"Load of a null record", NULL, 0, area, 512, NULL, 0, {0, 0}, HUBQR_WRONG_KIND},
+        {"Load of an empty record", matrix, 0, area, 512, NULL, 0, {0, 0}, HUBQR_WRONG_KIND},
+        {"Load of a result record", result, 2049, area, 512, NULL, 0, {0, 0}, HUBQR_WRONG_KIND},
+        {"Load of kind 03, 256 bytes", other_kind, 256, area, 512, NULL, 0, {0, 0}, HUBQR_WRONG_KIND},
+        {"Load of 1 byte", matrix, 1, area, 512, NULL, 0, {0, 0}, HUBQR_WRONG_LENGTH},
+        {"Load of 256 bytes", matrix, 256, area, 512, NULL, 0, {0, 0}, HUBQR_WRONG_LENGTH},
+        {"Load of 258 bytes", matrix, 258, area, 512, NULL, 0, {0, 0}, HUBQR_WRONG_LENGTH},
+        {"Load of 256 bytes, 511 words", matrix, 256, area, 511, NULL, 0, {0, 0}, HUBQR_WRONG_LENGTH},
+        {"Load into 511 words", matrix, 257, area, 511, NULL, 0, {0, 0}, HUBQR_AREA_TOO_SHORT},
+        {"Load into a null area", matrix, 257, NULL, 0, NULL, 0, {0, 0}, HUBQR_AREA_TOO_SHORT},
+        {"Load of zeros into 511 words", zeros, 257, area, 511, NULL, 0, {0, 0}, HUBQR_AREA_TOO_SHORT},
+        {"Load of zeros", zeros, 257, area, 512, NULL, 0, {0, 0}, HUBQR_NONE_HEARD},
+        {"Load of a hum of kind 03", other_hum, 257, area, 512, NULL, 0, {0, 0}, HUBQR_WRONG_KIND},
+        {"Load of 256 bytes of a hum", hum, 256, area, 512, NULL, 0, {0, 0}, HUBQR_WRONG_LENGTH},
+        {"Load of 258 bytes of a hum", hum, 258, area, 512, NULL, 0, {0, 0}, HUBQR_WRONG_LENGTH},
+        {"Load of a hum into 511 words", hum, 257, area, 511, NULL, 0, {0, 0}, HUBQR_AREA_TOO_SHORT},
+        {"Load of a hum", hum, 257, area, 512, NULL, 0, {0, 0}, HUBQR_NONE_HEARD},
+        {"Load of nothing into nothing", NULL, 0, NULL, 0, NULL, 0, {0, 0}, HUBQR_WRONG_KIND},
     };
     scribble();
     REFUSE_ALL(refuse_load, table);
@@ -98,11 +98,19 @@ static void test_load(void)
 static void test_run(void)
 {
     static const struct handed table[] = {
-        {"Run on 511 words", NULL, 0, area, 511, NULL, 0, 0, HUBQR_AREA_TOO_SHORT},
-        {"Run on a null area", NULL, 0, NULL, 0, NULL, 0, 7, HUBQR_AREA_TOO_SHORT},
-        {"Run at 121 on 511 words", NULL, 0, area, 511, NULL, 0, 121, HUBQR_AREA_TOO_SHORT},
-        {"Run at 121", NULL, 0, area, 512, NULL, 0, 121, HUBQR_NO_SUCH_TURN},
-        {"Run at the largest turn number", NULL, 0, area, 512, NULL, 0, UINT32_MAX, HUBQR_NO_SUCH_TURN},
+        {"Run on 511 words", NULL, 0, area, 511, NULL, 0, {0, 0}, HUBQR_AREA_TOO_SHORT},
+        {"Run on a null area", NULL, 0, NULL, 0, NULL, 0, {7, 5}, HUBQR_AREA_TOO_SHORT},
+        {"Run of job (121, 0) on 511 words", NULL, 0, area, 511, NULL, 0, {121, 0}, HUBQR_AREA_TOO_SHORT},
+        {"Run of job (5, 6) on 511 words", NULL, 0, area, 511, NULL, 0, {5, 6}, HUBQR_AREA_TOO_SHORT},
+        {"Run of job (121, 0)", NULL, 0, area, 512, NULL, 0, {121, 0}, HUBQR_NO_SUCH_JOB},
+        {"Run of job (121, 121)", NULL, 0, area, 512, NULL, 0, {121, 121}, HUBQR_NO_SUCH_JOB},
+        {"Run of the largest turn number", NULL, 0, area, 512, NULL, 0, {UINT32_MAX, 0}, HUBQR_NO_SUCH_JOB},
+        {"Run of the largest numbers", NULL, 0, area, 512, NULL, 0, {UINT32_MAX, UINT32_MAX}, HUBQR_NO_SUCH_JOB},
+        {"Run of job (0, 1)", NULL, 0, area, 512, NULL, 0, {0, 1}, HUBQR_NO_SUCH_JOB},
+        {"Run of job (5, 6)", NULL, 0, area, 512, NULL, 0, {5, 6}, HUBQR_NO_SUCH_JOB},
+        {"Run of job (119, 120)", NULL, 0, area, 512, NULL, 0, {119, 120}, HUBQR_NO_SUCH_JOB},
+        {"Run of job (119, the largest)", NULL, 0, area, 512, NULL, 0, {119, UINT32_MAX}, HUBQR_NO_SUCH_JOB},
+        {"Run of job (120, 121)", NULL, 0, area, 512, NULL, 0, {120, 121}, HUBQR_NO_SUCH_JOB},
     };
     scribble();
     REFUSE_ALL(refuse_run, table);
@@ -111,16 +119,25 @@ static void test_run(void)
 static void test_fetch(void)
 {
     static const struct handed table[] = {
-        {"Fetch from 511 words", NULL, 0, area, 511, buffer, 2049, 120, HUBQR_AREA_TOO_SHORT},
-        {"Fetch from a null area", NULL, 0, NULL, 0, buffer, 2049, 120, HUBQR_AREA_TOO_SHORT},
-        {"Fetch at 121 from 511 words", NULL, 0, area, 511, buffer, 2049, 121, HUBQR_AREA_TOO_SHORT},
-        {"Fetch at 121", NULL, 0, area, 512, buffer, 2049, 121, HUBQR_NO_SUCH_TURN},
-        {"Fetch at 121 into 2,048 bytes", NULL, 0, area, 512, buffer, 2048, 121, HUBQR_NO_SUCH_TURN},
-        {"Fetch at 119", NULL, 0, area, 512, buffer, 2049, 119, HUBQR_UNFINISHED},
-        {"Fetch at 0 into a null buffer", NULL, 0, area, 512, NULL, 0, 0, HUBQR_UNFINISHED},
-        {"Fetch into 2,048 bytes", NULL, 0, area, 512, buffer, 2048, 120, HUBQR_BUFFER_TOO_SHORT},
-        {"Fetch into a null buffer", NULL, 0, area, 512, NULL, 0, 120, HUBQR_BUFFER_TOO_SHORT},
-        {"Fetch of words that are no R", NULL, 0, area, 512, buffer, 2049, 120, HUBQR_NOT_TRIANGULAR},
+        {"Fetch from 511 words", NULL, 0, area, 511, buffer, 2049, {120, 0}, HUBQR_AREA_TOO_SHORT},
+        {"Fetch from a null area", NULL, 0, NULL, 0, buffer, 2049, {120, 0}, HUBQR_AREA_TOO_SHORT},
+        {"Fetch of job (121, 0) from 511 words", NULL, 0, area, 511, buffer, 2049, {121, 0}, HUBQR_AREA_TOO_SHORT},
+        {"Fetch of job (5, 6) from 511 words", NULL, 0, area, 511, buffer, 2049, {5, 6}, HUBQR_AREA_TOO_SHORT},
+        {"Fetch of job (121, 0)", NULL, 0, area, 512, buffer, 2049, {121, 0}, HUBQR_NO_SUCH_JOB},
+        {"Fetch of job (121, 0) into 2,048 bytes", NULL, 0, area, 512, buffer, 2048, {121, 0}, HUBQR_NO_SUCH_JOB},
+        {"Fetch of the largest numbers", NULL, 0, area, 512, buffer, 2049, {UINT32_MAX, UINT32_MAX}, HUBQR_NO_SUCH_JOB},
+        {"Fetch of job (0, 1)", NULL, 0, area, 512, buffer, 2049, {0, 1}, HUBQR_NO_SUCH_JOB},
+        {"Fetch of job (5, 6)", NULL, 0, area, 512, buffer, 2049, {5, 6}, HUBQR_NO_SUCH_JOB},
+        {"Fetch of job (119, the largest)", NULL, 0, area, 512, buffer, 2049, {119, UINT32_MAX}, HUBQR_NO_SUCH_JOB},
+        {"Fetch of job (120, 121)", NULL, 0, area, 512, buffer, 2049, {120, 121}, HUBQR_NO_SUCH_JOB},
+        {"Fetch of job (120, 121) into 2,048 bytes", NULL, 0, area, 512, buffer, 2048, {120, 121}, HUBQR_NO_SUCH_JOB},
+        {"Fetch of job (119, 0)", NULL, 0, area, 512, buffer, 2049, {119, 0}, HUBQR_UNFINISHED},
+        {"Fetch of job (119, 119)", NULL, 0, area, 512, buffer, 2049, {119, 119}, HUBQR_UNFINISHED},
+        {"Fetch of job (0, 0) into a null buffer", NULL, 0, area, 512, NULL, 0, {0, 0}, HUBQR_UNFINISHED},
+        {"Fetch into 2,048 bytes", NULL, 0, area, 512, buffer, 2048, {120, 0}, HUBQR_BUFFER_TOO_SHORT},
+        {"Fetch into a null buffer", NULL, 0, area, 512, NULL, 0, {120, 120}, HUBQR_BUFFER_TOO_SHORT},
+        {"Fetch of words that are no R", NULL, 0, area, 512, buffer, 2049, {120, 0}, HUBQR_NOT_TRIANGULAR},
+        {"Fetch of words that are no R, all made", NULL, 0, area, 512, buffer, 2049, {120, 120}, HUBQR_NOT_TRIANGULAR},
     };
     scribble();
     REFUSE_ALL(refuse_fetch, table);
@@ -129,7 +146,9 @@ static void test_fetch(void)
 /* Test 8 looks at 120 words under the diagonal and at 15 on it, and at no other. */
 static void test_fetch_rule(void)
 {
-    static const struct handed refused = {"Fetch of one wrong word", NULL, 0, area, 512, buffer, 2049, 120, HUBQR_NOT_TRIANGULAR};
+    static const struct handed refused = {
+        "Fetch of one wrong word", NULL, 0, area, 512, buffer, 2049, {120, 0}, HUBQR_NOT_TRIANGULAR,
+    };
     for (int k = 0; k < HUBQR_AREA_WORDS; k++) {
         int row = k / HUBQR_AREA_COLUMNS, column = k % HUBQR_AREA_COLUMNS;
         memset(area, 0, sizeof area);
@@ -137,7 +156,7 @@ static void test_fetch_rule(void)
         if (column < row || (column == row && row < 15)) {
             refuse_all(refuse_fetch, &refused, 1);
         } else {
-            CHECK("Fetch of one negative word", hubqr_fetch(120, area, AREA_LENT, buffer, BUFFER_LENT) == HUBQR_ACCEPTED);
+            CHECK("Fetch of one negative word", hubqr_fetch(refused.job, area, AREA_LENT, buffer, BUFFER_LENT) == HUBQR_ACCEPTED);
         }
     }
 }
@@ -145,17 +164,17 @@ static void test_fetch_rule(void)
 static void test_read(void)
 {
     static const struct handed table[] = {
-        {"Read of a null record", NULL, 0, area, 512, NULL, 0, 0, HUBQR_WRONG_KIND},
-        {"Read of an empty record", result, 0, area, 512, NULL, 0, 0, HUBQR_WRONG_KIND},
-        {"Read of a matrix record", matrix, 257, area, 512, NULL, 0, 0, HUBQR_WRONG_KIND},
-        {"Read of kind 03", other_kind, 2049, area, 512, NULL, 0, 0, HUBQR_WRONG_KIND},
-        {"Read of 2,048 bytes", result, 2048, area, 512, NULL, 0, 0, HUBQR_WRONG_LENGTH},
-        {"Read of 2,050 bytes", result, 2050, area, 512, NULL, 0, 0, HUBQR_WRONG_LENGTH},
-        {"Read into 511 words", result, 2049, area, 511, NULL, 0, 0, HUBQR_AREA_TOO_SHORT},
-        {"Read into a null area", result, 2049, NULL, 0, NULL, 0, 0, HUBQR_AREA_TOO_SHORT},
-        {"Read of a wrong R into 511 words", under_diagonal, 2049, area, 511, NULL, 0, 0, HUBQR_AREA_TOO_SHORT},
-        {"Read of a word under the diagonal", under_diagonal, 2049, area, 512, NULL, 0, 0, HUBQR_NOT_TRIANGULAR},
-        {"Read of a negative diagonal word", negative_diagonal, 2049, area, 512, NULL, 0, 0, HUBQR_NOT_TRIANGULAR},
+        {"Read of a null record", NULL, 0, area, 512, NULL, 0, {0, 0}, HUBQR_WRONG_KIND},
+        {"Read of an empty record", result, 0, area, 512, NULL, 0, {0, 0}, HUBQR_WRONG_KIND},
+        {"Read of a matrix record", matrix, 257, area, 512, NULL, 0, {0, 0}, HUBQR_WRONG_KIND},
+        {"Read of kind 03", other_kind, 2049, area, 512, NULL, 0, {0, 0}, HUBQR_WRONG_KIND},
+        {"Read of 2,048 bytes", result, 2048, area, 512, NULL, 0, {0, 0}, HUBQR_WRONG_LENGTH},
+        {"Read of 2,050 bytes", result, 2050, area, 512, NULL, 0, {0, 0}, HUBQR_WRONG_LENGTH},
+        {"Read into 511 words", result, 2049, area, 511, NULL, 0, {0, 0}, HUBQR_AREA_TOO_SHORT},
+        {"Read into a null area", result, 2049, NULL, 0, NULL, 0, {0, 0}, HUBQR_AREA_TOO_SHORT},
+        {"Read of a wrong R into 511 words", under_diagonal, 2049, area, 511, NULL, 0, {0, 0}, HUBQR_AREA_TOO_SHORT},
+        {"Read of a word under the diagonal", under_diagonal, 2049, area, 512, NULL, 0, {0, 0}, HUBQR_NOT_TRIANGULAR},
+        {"Read of a negative diagonal word", negative_diagonal, 2049, area, 512, NULL, 0, {0, 0}, HUBQR_NOT_TRIANGULAR},
     };
     scribble();
     REFUSE_ALL(refuse_read, table);
@@ -164,26 +183,26 @@ static void test_read(void)
 static void test_whole(void)
 {
     static const struct handed table[] = {
-        {"Whole of a null record", NULL, 0, area, 512, buffer, 2049, 0, HUBQR_WRONG_KIND},
-        {"Whole of a result record", result, 2049, area, 512, buffer, 2049, 0, HUBQR_WRONG_KIND},
-        {"Whole of 256 bytes", matrix, 256, area, 512, buffer, 2049, 0, HUBQR_WRONG_LENGTH},
-        {"Whole of 258 bytes", matrix, 258, area, 512, buffer, 2049, 0, HUBQR_WRONG_LENGTH},
-        {"Whole in 511 words", matrix, 257, area, 511, buffer, 2049, 0, HUBQR_AREA_TOO_SHORT},
-        {"Whole in a null area", matrix, 257, NULL, 0, buffer, 2049, 0, HUBQR_AREA_TOO_SHORT},
-        {"Whole in 511 words, 2,048 bytes", matrix, 257, area, 511, buffer, 2048, 0, HUBQR_AREA_TOO_SHORT},
-        {"Whole into 2,048 bytes", matrix, 257, area, 512, buffer, 2048, 0, HUBQR_BUFFER_TOO_SHORT},
-        {"Whole into a null buffer", matrix, 257, area, 512, NULL, 0, 0, HUBQR_BUFFER_TOO_SHORT},
-        {"Whole of zeros into 2,048 bytes", zeros, 257, area, 512, buffer, 2048, 0, HUBQR_BUFFER_TOO_SHORT},
-        {"Whole of zeros", zeros, 257, area, 512, buffer, 2049, 0, HUBQR_NONE_HEARD},
-        {"Whole of a hum of kind 03", other_hum, 257, area, 512, buffer, 2049, 0, HUBQR_WRONG_KIND},
-        {"Whole of 256 bytes of a hum", hum, 256, area, 512, buffer, 2049, 0, HUBQR_WRONG_LENGTH},
-        {"Whole of 258 bytes of a hum", hum, 258, area, 512, buffer, 2049, 0, HUBQR_WRONG_LENGTH},
-        {"Whole of a hum in 511 words", hum, 257, area, 511, buffer, 2049, 0, HUBQR_AREA_TOO_SHORT},
-        {"Whole of a hum in 511 words, 2,048 bytes", hum, 257, area, 511, buffer, 2048, 0, HUBQR_AREA_TOO_SHORT},
-        {"Whole of a hum into 2,048 bytes", hum, 257, area, 512, buffer, 2048, 0, HUBQR_BUFFER_TOO_SHORT},
-        {"Whole of a hum into a null buffer", hum, 257, area, 512, NULL, 0, 0, HUBQR_BUFFER_TOO_SHORT},
-        {"Whole of a hum", hum, 257, area, 512, buffer, 2049, 0, HUBQR_NONE_HEARD},
-        {"Whole of nothing", NULL, 0, NULL, 0, NULL, 0, 0, HUBQR_WRONG_KIND},
+        {"Whole of a null record", NULL, 0, area, 512, buffer, 2049, {0, 0}, HUBQR_WRONG_KIND},
+        {"Whole of a result record", result, 2049, area, 512, buffer, 2049, {0, 0}, HUBQR_WRONG_KIND},
+        {"Whole of 256 bytes", matrix, 256, area, 512, buffer, 2049, {0, 0}, HUBQR_WRONG_LENGTH},
+        {"Whole of 258 bytes", matrix, 258, area, 512, buffer, 2049, {0, 0}, HUBQR_WRONG_LENGTH},
+        {"Whole in 511 words", matrix, 257, area, 511, buffer, 2049, {0, 0}, HUBQR_AREA_TOO_SHORT},
+        {"Whole in a null area", matrix, 257, NULL, 0, buffer, 2049, {0, 0}, HUBQR_AREA_TOO_SHORT},
+        {"Whole in 511 words, 2,048 bytes", matrix, 257, area, 511, buffer, 2048, {0, 0}, HUBQR_AREA_TOO_SHORT},
+        {"Whole into 2,048 bytes", matrix, 257, area, 512, buffer, 2048, {0, 0}, HUBQR_BUFFER_TOO_SHORT},
+        {"Whole into a null buffer", matrix, 257, area, 512, NULL, 0, {0, 0}, HUBQR_BUFFER_TOO_SHORT},
+        {"Whole of zeros into 2,048 bytes", zeros, 257, area, 512, buffer, 2048, {0, 0}, HUBQR_BUFFER_TOO_SHORT},
+        {"Whole of zeros", zeros, 257, area, 512, buffer, 2049, {0, 0}, HUBQR_NONE_HEARD},
+        {"Whole of a hum of kind 03", other_hum, 257, area, 512, buffer, 2049, {0, 0}, HUBQR_WRONG_KIND},
+        {"Whole of 256 bytes of a hum", hum, 256, area, 512, buffer, 2049, {0, 0}, HUBQR_WRONG_LENGTH},
+        {"Whole of 258 bytes of a hum", hum, 258, area, 512, buffer, 2049, {0, 0}, HUBQR_WRONG_LENGTH},
+        {"Whole of a hum in 511 words", hum, 257, area, 511, buffer, 2049, {0, 0}, HUBQR_AREA_TOO_SHORT},
+        {"Whole of a hum in 511 words, 2,048 bytes", hum, 257, area, 511, buffer, 2048, {0, 0}, HUBQR_AREA_TOO_SHORT},
+        {"Whole of a hum into 2,048 bytes", hum, 257, area, 512, buffer, 2048, {0, 0}, HUBQR_BUFFER_TOO_SHORT},
+        {"Whole of a hum into a null buffer", hum, 257, area, 512, NULL, 0, {0, 0}, HUBQR_BUFFER_TOO_SHORT},
+        {"Whole of a hum", hum, 257, area, 512, buffer, 2049, {0, 0}, HUBQR_NONE_HEARD},
+        {"Whole of nothing", NULL, 0, NULL, 0, NULL, 0, {0, 0}, HUBQR_WRONG_KIND},
     };
     scribble();
     REFUSE_ALL(refuse_whole, table);

@@ -1,5 +1,6 @@
 // Shows that hubqr.h and what it includes are C++ headers too: they compile as C++17 and their functions link by their C names.
 #include "hubqr.h"
+#include "layout.h"
 
 #include <algorithm>
 #include <array>
@@ -13,15 +14,39 @@ static std::array<uint8_t, HUBQR_MATRIX_RECORD_BYTES> record{HUBQR_KIND_MATRIX};
 static std::array<int32_t, HUBQR_AREA_WORDS> area;
 static std::array<uint8_t, HUBQR_RESULT_RECORD_BYTES> buffer;
 
+static bool is_job(hubqr_job job, uint32_t turn, uint32_t made)
+{
+    return job.turn == turn && job.made == made;
+}
+
 static bool accepted()
 {
     record[2] = HUBQR_HEARD_ABOVE + 1; // the real part of element (0, 0), which is enough for antenna 0 to be heard
     auto factored = hubqr_whole(record.data(), record.size(), area.data(), area.size(), buffer.data(), buffer.size());
     auto restored = hubqr_read(buffer.data(), buffer.size(), area.data(), area.size());
-    auto ran = hubqr_run(restored.turn, 1, area.data(), area.size());
+    auto ran = hubqr_run(restored.job, 1, area.data(), area.size());
     bool unclamped = factored.clamps_r == 0 && factored.clamps_q == 0 && ran.clamps_r == 0 && ran.clamps_q == 0;
     return factored.number == HUBQR_ACCEPTED && factored.heard == 1 && restored.number == HUBQR_ACCEPTED &&
-           restored.turn == HUBQR_TURNS && ran.number == HUBQR_ACCEPTED && ran.turn == HUBQR_TURNS && ran.count == 0 && unclamped;
+           is_job(restored.job, 120, 0) && ran.number == HUBQR_ACCEPTED && is_job(ran.job, 120, 0) && ran.count == 0 && unclamped;
+}
+
+// The matrix has nothing but (17, 0) at (0, 0), so that no turn is made, in two instalments that hand the job on.
+static bool in_instalments()
+{
+    auto loaded = hubqr_load(record.data(), record.size(), area.data(), area.size());
+    hubqr_job job = loaded.job;
+    bool begun = loaded.number == HUBQR_ACCEPTED && is_job(job, 0, 0);
+    uint32_t count = 0;
+    while (job.turn < HUBQR_TURNS) {
+        auto ran = hubqr_run(job, 60, area.data(), area.size());
+        if (ran.number != HUBQR_ACCEPTED) {
+            return false;
+        }
+        count += ran.count;
+        job = ran.job;
+    }
+    auto fetched = hubqr_fetch(job, area.data(), area.size(), buffer.data(), buffer.size());
+    return begun && count == 120 && is_job(job, 120, 0) && fetched == HUBQR_ACCEPTED;
 }
 
 // Words as large as they can be in the last column, which holds Q, are cut once.
@@ -29,17 +54,19 @@ static bool clamped()
 {
     area.fill(1000);
     area[HUBQR_AREA_COLUMNS * 14 + 31] = area[HUBQR_AREA_COLUMNS * 15 + 31] = INT32_MAX;
-    auto ran = hubqr_run(119, 1, area.data(), area.size());
-    return ran.number == HUBQR_ACCEPTED && ran.count == 1 && ran.clamps_r == 0 && ran.clamps_q == 1;
+    auto ran = hubqr_run({119, 7}, 1, area.data(), area.size());
+    return ran.number == HUBQR_ACCEPTED && is_job(ran.job, 120, 8) && ran.count == 1 && ran.clamps_r == 0 && ran.clamps_q == 1;
 }
 
 static bool refused()
 {
     auto loaded = hubqr_load(nullptr, 0, area.data(), area.size());
-    auto fetched = hubqr_fetch(HUBQR_TURNS, area.data(), area.size(), buffer.data(), 0);
+    auto fetched = hubqr_fetch({120, 0}, area.data(), area.size(), buffer.data(), 0);
+    auto ran = hubqr_run({5, 6}, 1, area.data(), area.size());
     record[2] = HUBQR_HEARD_ABOVE;
     auto unheard = hubqr_load(record.data(), record.size(), area.data(), area.size());
-    return loaded.number == HUBQR_WRONG_KIND && fetched == HUBQR_BUFFER_TOO_SHORT && unheard.number == HUBQR_NONE_HEARD;
+    return loaded.number == HUBQR_WRONG_KIND && fetched == HUBQR_BUFFER_TOO_SHORT && ran.number == HUBQR_NO_SUCH_JOB &&
+           is_job(ran.job, 5, 6) && unheard.number == HUBQR_NONE_HEARD;
 }
 
 // 1 + 2i times the conjugate of 3 + 4i is 11 + 2i; the samples are 256 times that. The diagonal has 5 and 25, so that antenna 1
@@ -81,7 +108,7 @@ static bool weighted()
 int main()
 {
     bool named = hubqr_version() == HUBQR_VERSION && hubqr_refusal_words(HUBQR_ACCEPTED) == std::string_view("accepted");
-    bool holds = accepted() && clamped() && refused() && covariance() && weighted() && named;
+    bool holds = accepted() && in_instalments() && clamped() && refused() && covariance() && weighted() && named;
     std::puts(holds ? "hubqr C++ face: passed" : "hubqr C++ face: FAILED");
     return holds ? 0 : 1;
 }

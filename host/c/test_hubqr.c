@@ -10,6 +10,7 @@ int main(void)
 {
     test_face();
     test_accepted();
+    test_job();
     test_heard();
     test_refused();
     test_covariance();

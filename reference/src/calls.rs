@@ -6,6 +6,7 @@ use std::sync::LazyLock;
 
 use crate::area::{WorkArea, AREA_WORDS};
 use crate::clamps::Clamps;
+use crate::job::Job;
 use crate::matrix::Matrix;
 use crate::records::{parse_matrix, parse_result, write_result, RESULT_RECORD};
 use crate::replies::{FetchReply, LoadReply, ReadReply, Refusal, RunReply, WholeReply};
@@ -19,14 +20,15 @@ pub fn load(record: &[u8], area: &mut [i32]) -> LoadReply {
     accept_load(record, area).unwrap_or_else(LoadReply::from)
 }
 
-/// Run: makes the turns that remain, at most `allowance` of them.
-pub fn run(turn: u32, allowance: u16, area: &mut [i32]) -> RunReply {
-    accept_run(turn, allowance, area).unwrap_or_else(|refusal| RunReply::refused(refusal, turn))
+/// Run: makes the turns that remain, at most `allowance` of them. A skipped turn uses up allowance
+/// like any other.
+pub fn run(job: Job, allowance: u16, area: &mut [i32]) -> RunReply {
+    accept_run(job, allowance, area).unwrap_or_else(|refusal| RunReply::refused(refusal, job))
 }
 
 /// Fetch: writes the result record of a worked area to the first 2,049 bytes of the buffer.
-pub fn fetch(turn: u32, area: &[i32], buffer: &mut [u8]) -> FetchReply {
-    accept_fetch(turn, area, buffer).unwrap_or_else(FetchReply::from)
+pub fn fetch(job: Job, area: &[i32], buffer: &mut [u8]) -> FetchReply {
+    accept_fetch(job, area, buffer).unwrap_or_else(FetchReply::from)
 }
 
 /// Read: fills the area from a result record.
@@ -46,30 +48,30 @@ fn accept_load(record: &[u8], area: &mut [i32]) -> Result<LoadReply, Refusal> {
     *area = WorkArea::loaded(&matrix.to_real()).to_words();
     Ok(LoadReply {
         number: 0,
-        turn: 0,
         heard: matrix.heard(),
+        job: Job::LOADED,
     })
 }
 
-fn accept_run(turn: u32, allowance: u16, area: &mut [i32]) -> Result<RunReply, Refusal> {
+fn accept_run(job: Job, allowance: u16, area: &mut [i32]) -> Result<RunReply, Refusal> {
     let area = lent_area(area)?;
-    test_turn(turn)?;
-    let count = u32::from(allowance).min(TURNS - turn);
+    test_job(job)?;
+    let count = u32::from(allowance).min(TURNS - job.turn);
     let mut work = WorkArea::from_words(area);
-    let clamps = make_turns(&mut work, turn, count);
+    let (made, clamps) = make_turns(&mut work, job.turn, count);
     *area = work.to_words();
     Ok(RunReply {
         number: 0,
-        turn: turn + count,
+        job: job.after(count, made),
         count,
         clamps,
     })
 }
 
-fn accept_fetch(turn: u32, area: &[i32], buffer: &mut [u8]) -> Result<FetchReply, Refusal> {
+fn accept_fetch(job: Job, area: &[i32], buffer: &mut [u8]) -> Result<FetchReply, Refusal> {
     let words = area.first_chunk().ok_or(Refusal::Area)?;
-    test_turn(turn)?;
-    if turn < TURNS {
+    test_job(job)?;
+    if !job.is_finished() {
         return Err(Refusal::Unfinished);
     }
     let buffer = lent_buffer(buffer)?;
@@ -86,7 +88,7 @@ fn accept_read(record: &[u8], area: &mut [i32]) -> Result<ReadReply, Refusal> {
     *area = work.to_words();
     Ok(ReadReply {
         number: 0,
-        turn: TURNS,
+        job: Job::READ,
     })
 }
 
@@ -96,7 +98,7 @@ fn accept_whole(record: &[u8], area: &mut [i32], buffer: &mut [u8]) -> Result<Wh
     let buffer = lent_buffer(buffer)?;
     test_heard(&matrix)?;
     let mut work = WorkArea::loaded(&matrix.to_real());
-    let clamps = make_turns(&mut work, 0, TURNS);
+    let (_, clamps) = make_turns(&mut work, 0, TURNS);
     *area = work.to_words();
     *buffer = write_result(&work);
     Ok(WholeReply {
@@ -106,10 +108,12 @@ fn accept_whole(record: &[u8], area: &mut [i32], buffer: &mut [u8]) -> Result<Wh
     })
 }
 
-/// Makes `count` turns from turn number `first` on, and answers their clamps.
-fn make_turns(work: &mut WorkArea, first: u32, count: u32) -> Clamps {
+/// Takes `count` turns from turn number `first` on, and answers how many of them were not skipped,
+/// and their clamps.
+fn make_turns(work: &mut WorkArea, first: u32, count: u32) -> (u32, Clamps) {
     let turns = SCHEDULE.iter().skip(first as usize).take(count as usize);
-    turns.map(|&turn| rotate(work, turn)).sum()
+    let made: Vec<Clamps> = turns.filter_map(|&turn| rotate(work, turn)).collect();
+    (made.len() as u32, made.into_iter().sum())
 }
 
 /// Test 3, and the words that a call may touch.
@@ -127,11 +131,11 @@ fn test_heard(matrix: &Matrix) -> Result<(), Refusal> {
 }
 
 /// Test 5.
-fn test_turn(turn: u32) -> Result<(), Refusal> {
-    if turn > TURNS {
-        Err(Refusal::Turn)
-    } else {
+fn test_job(job: Job) -> Result<(), Refusal> {
+    if job.exists() {
         Ok(())
+    } else {
+        Err(Refusal::Job)
     }
 }
 
@@ -185,8 +189,8 @@ mod tests {
         }
         let accepted = LoadReply {
             number: 0,
-            turn: 0,
             heard: 255,
+            job: Job::new(0, 0),
         };
         assert_eq!(load(&matrix_record(9), full), accepted);
     }
@@ -194,13 +198,18 @@ mod tests {
     #[test]
     fn run_makes_its_tests_in_order() {
         let (short, full) = (&mut [0; 511][..], &mut [0; 512][..]);
-        assert_eq!(run(121, 7, short), RunReply::refused(Refusal::Area, 121));
-        assert_eq!(run(121, 7, full), RunReply::refused(Refusal::Turn, 121));
-        let at_the_end = RunReply {
-            turn: 120,
-            ..RunReply::default()
-        };
-        assert_eq!(run(120, 7, full), at_the_end);
+        for job in [(121, 0), (5, 6), (120, 121), (u32::MAX, u32::MAX)] {
+            let job = Job::new(job.0, job.1);
+            assert_eq!(run(job, 7, short), RunReply::refused(Refusal::Area, job));
+            assert_eq!(run(job, 7, full), RunReply::refused(Refusal::Job, job));
+        }
+        for made in [0, 7, 120] {
+            let at_the_end = RunReply {
+                job: Job::new(120, made),
+                ..RunReply::default()
+            };
+            assert_eq!(run(at_the_end.job, 7, full), at_the_end);
+        }
     }
 
     #[test]
@@ -213,8 +222,24 @@ mod tests {
             (0, 121, 120),
             (119, 65535, 1),
         ] {
-            let reply = run(turn, allowance, &mut area);
-            assert_eq!((reply.count, reply.turn), (count, turn + count));
+            let reply = run(Job::new(turn, 0), allowance, &mut area);
+            assert_eq!((reply.count, reply.job.turn), (count, turn + count));
+        }
+    }
+
+    /// Of an area of zeros but for one word of the first column, that word's turn is made, and the
+    /// turns that bring it to the top.
+    #[test]
+    fn run_adds_the_turns_that_were_not_skipped() {
+        for made in [0, 1, 3] {
+            let mut area = [0; 512];
+            area[32 * 15] = 1 << 20;
+            let reply = run(Job::new(3, made), 4, &mut area);
+            assert_eq!((reply.count, reply.job), (4, Job::new(7, made)));
+            let reply = run(reply.job, 1, &mut area);
+            assert_eq!((reply.count, reply.job), (1, Job::new(8, made + 1)));
+            let reply = run(reply.job, 112, &mut area);
+            assert_eq!((reply.count, reply.job), (112, Job::new(120, made + 4)));
         }
     }
 
@@ -223,12 +248,19 @@ mod tests {
         let mut damaged = [0; 512];
         damaged[0] = -1;
         let buffer = &mut [0; 2049][..];
-        assert_eq!(fetch(121, &damaged[..511], &mut buffer[..5]).number, 3);
-        assert_eq!(fetch(121, &damaged, &mut buffer[..5]).number, 5);
-        assert_eq!(fetch(119, &damaged, &mut buffer[..5]).number, 6);
-        assert_eq!(fetch(120, &damaged, &mut buffer[..2048]).number, 7);
-        assert_eq!(fetch(120, &damaged, buffer).number, 8);
-        assert_eq!(fetch(120, &[0; 512], buffer).number, 0);
+        for job in [(121, 0), (5, 6), (120, 121)] {
+            let job = Job::new(job.0, job.1);
+            assert_eq!(fetch(job, &damaged[..511], &mut buffer[..5]).number, 3);
+            assert_eq!(fetch(job, &damaged, &mut buffer[..5]).number, 5);
+        }
+        let early = Job::new(119, 119);
+        assert_eq!(fetch(early, &damaged, &mut buffer[..5]).number, 6);
+        for made in [0, 120] {
+            let job = Job::new(120, made);
+            assert_eq!(fetch(job, &damaged, &mut buffer[..2048]).number, 7);
+            assert_eq!(fetch(job, &damaged, buffer).number, 8);
+            assert_eq!(fetch(job, &[0; 512], buffer).number, 0);
+        }
     }
 
     #[test]
@@ -241,7 +273,7 @@ mod tests {
         assert_eq!(read(&result_record(-1), full).number, 8);
         let accepted = ReadReply {
             number: 0,
-            turn: 120,
+            job: Job::new(120, 0),
         };
         assert_eq!(read(&result_record(0), full), accepted);
     }

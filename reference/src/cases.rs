@@ -2,6 +2,7 @@
 //! [`unheard_edges`].
 
 mod edges;
+mod zeros;
 
 pub use edges::{edges, unheard_edges};
 
@@ -46,10 +47,20 @@ pub enum Kind {
     RepeatedColumns,
     /// Every part a power of two, or its negative.
     PowersOfTwo,
+    /// Zero off the diagonal.
+    Diagonal,
+    /// Half of the antennas have nothing in their rows, in their columns, or in both.
+    HalfEmpty,
+    /// Antennas in groups, with zeros between one group and another.
+    BlockDiagonal,
+    /// Zero further from the diagonal than a few places.
+    Banded,
+    /// Zero under the diagonal, and no imaginary parts.
+    RealTriangular,
 }
 
 impl Kind {
-    pub const ALL: [Kind; 14] = [
+    pub const ALL: [Kind; 19] = [
         Kind::FullRange,
         Kind::Extremes,
         Kind::Tiny,
@@ -64,6 +75,20 @@ impl Kind {
         Kind::Triangular,
         Kind::RepeatedColumns,
         Kind::PowersOfTwo,
+        Kind::Diagonal,
+        Kind::HalfEmpty,
+        Kind::BlockDiagonal,
+        Kind::Banded,
+        Kind::RealTriangular,
+    ];
+
+    /// Those with zeros in whole regions, so that many of their turns have nothing to clear.
+    pub const WITH_ZEROS: [Kind; 5] = [
+        Kind::Diagonal,
+        Kind::HalfEmpty,
+        Kind::BlockDiagonal,
+        Kind::Banded,
+        Kind::RealTriangular,
     ];
 
     pub fn name(self) -> &'static str {
@@ -82,6 +107,11 @@ impl Kind {
             Kind::Triangular => "triangular",
             Kind::RepeatedColumns => "repeated columns",
             Kind::PowersOfTwo => "powers of two",
+            Kind::Diagonal => "diagonal",
+            Kind::HalfEmpty => "half-empty",
+            Kind::BlockDiagonal => "block diagonal",
+            Kind::Banded => "banded",
+            Kind::RealTriangular => "real triangular",
         }
     }
 
@@ -112,6 +142,11 @@ impl Kind {
             Kind::Triangular => triangular(random),
             Kind::RepeatedColumns => repeated_columns(random),
             Kind::PowersOfTwo => from_parts(|| power_of_two(random)),
+            Kind::Diagonal => zeros::diagonal(random),
+            Kind::HalfEmpty => zeros::half_empty(random),
+            Kind::BlockDiagonal => zeros::block_diagonal(random),
+            Kind::Banded => zeros::banded(random),
+            Kind::RealTriangular => zeros::real_triangular(random),
         }
     }
 }

@@ -5,10 +5,10 @@
 //! a rotation is decided once and then applied to one column at a time, and every call copies the
 //! lent words in, works on its copy and copies the outcome back.
 //!
-//! [`calls`] has the five calls of the factorization, [`covariance`] the three that make a matrix
-//! record of snapshots, and [`weights`] the one that solves for weights. [`accuracy`] has the exact
-//! errors of a worked matrix, [`cases`] and [`random`] the test matrices. [`listing`] and [`program`]
-//! say what the programs have to write.
+//! [`calls`] has the five calls of the factorization, [`job`] what a host hands from one to the
+//! next, [`covariance`] the three that make a matrix record of snapshots, and [`weights`] the one
+//! that solves for weights. [`accuracy`] has the exact errors of a worked matrix, [`cases`] and
+//! [`random`] the test matrices. [`listing`] and [`program`] say what the programs have to write.
 
 pub mod accuracy;
 pub mod area;
@@ -16,6 +16,7 @@ pub mod calls;
 pub mod cases;
 pub mod clamps;
 pub mod covariance;
+pub mod job;
 pub mod listing;
 pub mod matrix;
 pub mod program;

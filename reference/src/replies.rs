@@ -1,6 +1,7 @@
 //! The refusal numbers, and the replies of the five calls of the factorization.
 
 use crate::clamps::Clamps;
+use crate::job::Job;
 
 /// Why a call was refused. The discriminants are the numbers that are answered.
 #[derive(Debug, Clone, Copy, PartialEq, Eq)]
@@ -14,9 +15,9 @@ pub enum Refusal {
     Area = 3,
     /// No antenna is heard.
     NoneHeard = 4,
-    /// The turn number is above 120.
-    Turn = 5,
-    /// The turn number is under 120 at Fetch.
+    /// The job's turn number is above 120, or it has more turns made than its turn number.
+    Job = 5,
+    /// The job's turn number is under 120 at Fetch.
     Unfinished = 6,
     /// The buffer has under 2,049 bytes, or under 257 where a matrix record is to be written.
     Buffer = 7,
@@ -41,15 +42,16 @@ impl Refusal {
 #[derive(Debug, Clone, Copy, Default, PartialEq, Eq)]
 pub struct LoadReply {
     pub number: u8,
-    pub turn: u32,
     pub heard: u8,
+    pub job: Job,
 }
 
-/// Run's reply. A refused Run gives back the turn number as it was given.
+/// Run's reply. A refused Run gives back the job as it was given.
 #[derive(Debug, Clone, Copy, Default, PartialEq, Eq)]
 pub struct RunReply {
     pub number: u8,
-    pub turn: u32,
+    pub job: Job,
+    /// The turns of this call, skipped ones included.
     pub count: u32,
     pub clamps: Clamps,
 }
@@ -64,7 +66,7 @@ pub struct FetchReply {
 #[derive(Debug, Clone, Copy, Default, PartialEq, Eq)]
 pub struct ReadReply {
     pub number: u8,
-    pub turn: u32,
+    pub job: Job,
 }
 
 /// Whole's reply.
@@ -111,11 +113,11 @@ impl From<Refusal> for WholeReply {
 }
 
 impl RunReply {
-    /// The reply of a Run that was refused at a turn number.
-    pub fn refused(refusal: Refusal, turn: u32) -> Self {
+    /// The reply of a Run that was refused with a job.
+    pub fn refused(refusal: Refusal, job: Job) -> Self {
         RunReply {
             number: refusal.number(),
-            turn,
+            job,
             ..RunReply::default()
         }
     }

@@ -19,16 +19,20 @@ struct Rotation {
 }
 
 impl Rotation {
-    /// Vectoring: finds the rotation that clears the lower word of the leading column.
-    fn clearing(upper: i32, lower: i32) -> Self {
+    /// Vectoring: finds the rotation that clears the lower word of the leading column. There is
+    /// none where that word is 0 already and the upper one has the sign that a rotation leaves.
+    fn clearing(upper: i32, lower: i32) -> Option<Self> {
         let negate = upper < 0;
+        if lower == 0 && !negate {
+            return None;
+        }
         let (mut u, mut v) = signed(upper, lower, negate);
         let mut directions = [0; STEPS];
         for (i, direction) in directions.iter_mut().enumerate() {
             *direction = if v >= 0 { 1 } else { -1 };
             (u, v) = micro_step(u, v, i, *direction);
         }
-        Rotation { negate, directions }
+        Some(Rotation { negate, directions })
     }
 
     /// Rotates one column's words; the result has not been scaled yet.
@@ -65,14 +69,15 @@ fn saturate(word: i64) -> (i32, bool) {
     (clamped as i32, clamped != word)
 }
 
-/// Makes one turn on the area and answers the clamps it counted.
-pub fn rotate(area: &mut WorkArea, turn: Turn) -> Clamps {
+/// Makes one turn on the area and answers the clamps it counted. A turn whose leading column is
+/// clear is skipped: it answers nothing and leaves the area as it is.
+pub fn rotate(area: &mut WorkArea, turn: Turn) -> Option<Clamps> {
     let Turn {
         column: leading,
         upper,
         lower,
     } = turn;
-    let rotation = Rotation::clearing(area.word(upper, leading), area.word(lower, leading));
+    let rotation = Rotation::clearing(area.word(upper, leading), area.word(lower, leading))?;
     let mut clamps = Clamps::NONE;
     for column in leading..COLUMNS {
         let (u, v) = rotation.apply(area.word(upper, column), area.word(lower, column));
@@ -84,7 +89,7 @@ pub fn rotate(area: &mut WorkArea, turn: Turn) -> Clamps {
             store(area, lower, column, v, &mut clamps);
         }
     }
-    clamps
+    Some(clamps)
 }
 
 /// Scales, clamps and stores a rotated word, and counts it if clamping altered it.
@@ -107,8 +112,9 @@ mod tests {
         lower: 15,
     };
 
-    /// Rotates an area of zeros but for the leading pair, and answers the pair and the clamps.
-    fn rotate_pair(upper: i32, lower: i32) -> (i32, i32, Clamps) {
+    /// Rotates an area of zeros but for the leading pair, and answers the pair, and the clamps of a
+    /// turn that was not skipped.
+    fn rotate_pair(upper: i32, lower: i32) -> (i32, i32, Option<Clamps>) {
         let mut area = WorkArea::from_words(&[0; AREA_WORDS]);
         area.set_word(14, 14, upper);
         area.set_word(15, 14, lower);
@@ -125,14 +131,46 @@ mod tests {
     #[test]
     fn a_half_is_rounded_up() {
         assert_eq!(scale(268_435_456), 163_008_219);
-        assert_eq!(rotate_pair(-163_008_213, 0), (163_008_219, 0, Clamps::NONE));
+        let made = Some(Clamps::NONE);
+        assert_eq!(rotate_pair(-163_008_213, 0), (163_008_219, 0, made));
+    }
+
+    /// The pair of M10 is not turned, so M12 alone tells 28 micro-steps from 27 or 29.
+    #[test]
+    fn marked_cases_m10_to_m12() {
+        let made = Some(Clamps::NONE);
+        assert_eq!(rotate_pair(1, 0), (1, 0, None));
+        assert_eq!(rotate_pair(0, 1), (1, 0, made));
+        assert_eq!(rotate_pair(-1, 0), (17, 0, made));
     }
 
     #[test]
-    fn marked_cases_m10_to_m12() {
-        assert_eq!(rotate_pair(1, 0), (17, 0, Clamps::NONE));
-        assert_eq!(rotate_pair(0, 1), (1, 0, Clamps::NONE));
-        assert_eq!(rotate_pair(-1, 0), (17, 0, Clamps::NONE));
+    fn a_clear_pair_with_no_negative_upper_word_is_skipped() {
+        for upper in [0, 1, 2, 12_345, i32::MAX - 1, i32::MAX] {
+            assert_eq!(rotate_pair(upper, 0), (upper, 0, None));
+            for lower in [i32::MIN, -1, 1, i32::MAX] {
+                assert!(rotate_pair(upper, lower).2.is_some(), "({upper}, {lower})");
+            }
+        }
+        for upper in [i32::MIN, -12_345, -2, -1] {
+            assert!(rotate_pair(upper, 0).2.is_some(), "({upper}, 0)");
+        }
+    }
+
+    /// Words at the ends of the range, which a rotation by nearly any angle takes beyond.
+    #[test]
+    fn a_skipped_turn_leaves_its_rows_and_counts_no_clamp() {
+        let ends = std::array::from_fn(|k| if k % 3 == 0 { i32::MIN } else { i32::MAX });
+        let mut area = WorkArea::from_words(&ends);
+        area.set_word(15, 14, 0);
+        for (upper, skipped) in [(0, true), (1, true), (-1, false)] {
+            area.set_word(14, 14, upper);
+            let before = area.clone();
+            let clamps = rotate(&mut area, LAST_TURN);
+            assert_eq!(clamps.is_none(), skipped, "({upper}, 0)");
+            assert_eq!(area == before, skipped, "({upper}, 0)");
+            assert!(clamps.is_none_or(|clamps| clamps.r > 0 && clamps.q > 0));
+        }
     }
 
     #[test]
@@ -153,7 +191,7 @@ mod tests {
     #[test]
     fn the_largest_leading_pair_counts_one_clamp() {
         let one = Clamps { r: 1, q: 0 };
-        assert_eq!(rotate_pair(i32::MIN, i32::MIN), (i32::MAX, 0, one));
+        assert_eq!(rotate_pair(i32::MIN, i32::MIN), (i32::MAX, 0, Some(one)));
     }
 
     #[test]

@@ -5,6 +5,7 @@ mod common;
 use common::{Both, Case};
 use reference::area::{WorkArea, AREA_WORDS, COLUMNS, ROWS};
 use reference::clamps::Clamps;
+use reference::job::Job;
 use reference::matrix::{Complex, Matrix};
 use reference::random::Random;
 use reference::records::write_matrix;
@@ -43,7 +44,8 @@ fn every_turn_changes_its_rows_from_its_column_on() {
     for (number, turn) in schedule::turns().iter().enumerate() {
         let mut both = both("turns", &[]);
         both.fill_area(&words);
-        both.run(number as u32, 1);
+        let reply = both.run(Job::new(number as u32, 0), 1);
+        assert_eq!(reply.job.made, 1);
         let after = both.area();
         for row in 0..ROWS {
             for column in 0..COLUMNS {
@@ -57,17 +59,20 @@ fn every_turn_changes_its_rows_from_its_column_on() {
     }
 }
 
-/// The last pair is scaled from an odd multiple of 2^28, where rounding up and down differ.
+/// M10 is clear and stays as it is, so that M12 alone tells 28 micro-steps from 27 or 29. The last
+/// pair is scaled from an odd multiple of 2^28, where rounding up and down differ.
 #[test]
 fn m10_to_m12_leading_pairs() {
-    let rounded_up = (-163_008_213, 0, 163_008_219);
-    for (upper, lower, outcome) in [(1, 0, 17), (0, 1, 1), (-1, 0, 17), rounded_up] {
+    let rounded_up = (-163_008_213, 0, 163_008_219, 1);
+    for (upper, lower, outcome, made) in [(1, 0, 1, 0), (0, 1, 1, 1), (-1, 0, 17, 1), rounded_up] {
         let mut words = [0; AREA_WORDS];
         words[14 * COLUMNS + 14] = upper;
         words[15 * COLUMNS + 14] = lower;
         let mut both = both("leading pairs", &[]);
         both.fill_area(&words);
-        assert_eq!(both.run(119, 1).clamps, Clamps::NONE);
+        let reply = both.run(Job::new(119, 7), 1);
+        assert_eq!((reply.job, reply.count), (Job::new(120, 7 + made), 1));
+        assert_eq!(reply.clamps, Clamps::NONE);
         assert_eq!(both.area().word(14, 14), outcome);
         assert_eq!(both.area().word(15, 14), 0);
     }
@@ -93,15 +98,16 @@ fn allowances_around_the_number_of_turns() {
     let record = filled_with(Complex::new(100, -77));
     for (allowance, count) in [(119, 119), (120, 120), (121, 120)] {
         let mut both = both("allowances", &record);
-        both.load(&record);
-        let reply = both.run(0, allowance);
-        assert_eq!((reply.count, reply.turn), (count, count));
+        let loaded = both.load(&record).job;
+        assert_eq!(loaded, Job::new(0, 0));
+        let reply = both.run(loaded, allowance);
+        assert_eq!((reply.count, reply.job.turn), (count, count));
         assert_eq!(reply.clamps, Clamps::NONE);
-        let accepted = both.fetch(reply.turn).number == 0;
+        let accepted = both.fetch(reply.job).number == 0;
         assert_eq!(accepted, count == 120);
-        let rest = both.run(reply.turn, allowance);
+        let rest = both.run(reply.job, allowance);
         assert_eq!((rest.number, rest.count), (0, 120 - count));
-        assert_eq!(rest.turn, 120);
+        assert_eq!(rest.job.turn, 120);
     }
 }
 
@@ -123,7 +129,7 @@ fn the_hub_that_heard_nothing_is_refused() {
 fn refused(test: &'static str, record: &[u8]) {
     let mut both = both(test, record);
     let load = both.load(record);
-    assert_eq!((load.number, load.turn, load.heard), (4, 0, 0));
+    assert_eq!((load.number, load.heard, load.job), (4, 0, Job::new(0, 0)));
     let whole = both.whole(record);
     assert_eq!((whole.number, whole.heard), (4, 0));
     assert_eq!(whole.clamps, Clamps::NONE);

@@ -6,6 +6,7 @@ use common::heard::{heard_in, Heard};
 use common::{Both, Case};
 use reference::calls;
 use reference::cases::Kind;
+use reference::job::Job;
 use reference::matrix::{Complex, Matrix, REAL_SIZE};
 use reference::random::Random;
 use reference::records::{parse_result, write_matrix, MATRIX_RECORD, RESULT_RECORD};
@@ -163,7 +164,7 @@ fn each_word_of_r_is_tested_at_read_and_fetch() {
             assert_eq!(both.read(&record).number, number);
             let area = parse_result(&record).expect("kind and length are right");
             both.fill_area(&area.to_words());
-            assert_eq!(both.fetch(120).number, number);
+            assert_eq!(both.fetch(Job::READ).number, number);
         }
     }
 }
@@ -181,7 +182,7 @@ fn result_records_with_a_damaged_byte() {
         let reply = both.read(&record);
         if reply.number == 0 {
             accepted += 1;
-            both.fetch(reply.turn);
+            both.fetch(reply.job);
             both.require(both.fetched() == record, "not written again byte for byte");
         } else {
             refused += 1;
@@ -221,6 +222,6 @@ fn fetch_refuses_a_damaged_area() {
         let any = random.word();
         words[random.below(512)] = random.choose(&[-1, 1, i32::MIN, any]);
         both.fill_area(&words);
-        both.fetch(120);
+        both.fetch(Job::new(120, 120));
     }
 }

@@ -11,6 +11,7 @@ use reference::accuracy::{Errors, BOUND};
 use reference::area::AREA_WORDS;
 use reference::cases::{edges, Kind};
 use reference::clamps::Clamps;
+use reference::job::Job;
 use reference::matrix::{Complex, Matrix};
 use reference::random::Random;
 use reference::records::{write_matrix, write_result, RESULT_RECORD};
@@ -19,14 +20,18 @@ use reference::schedule::TURNS;
 
 const TEST: &str = "matrices";
 const PER_KIND: u64 = 1000;
-/// All of them, as the documents say: 14 kinds, and 188 at the edges of the range.
-const MATRICES: u64 = 14_188;
+/// All of them, as the documents say: 19 kinds, and 188 at the edges of the range.
+const MATRICES: u64 = 19_188;
 
 /// What was seen of one kind of matrix.
 struct Tally {
     name: &'static str,
     matrices: u64,
     worst: Errors,
+    /// The turns that were truly made, of all matrices together.
+    made: u64,
+    /// The most that one matrix cost.
+    most: u32,
 }
 
 impl Tally {
@@ -35,19 +40,38 @@ impl Tally {
             name,
             matrices: 0,
             worst: Errors::default(),
+            made: 0,
+            most: 0,
         }
     }
 
-    fn add(&mut self, matrices: u64, errors: Errors) {
-        self.matrices += matrices;
+    fn add(&mut self, (errors, made): (Errors, u32)) {
+        self.matrices += 1;
         self.worst = self.worst.max(errors);
+        self.made += u64::from(made);
+        self.most = self.most.max(made);
+    }
+
+    fn add_all(&mut self, other: &Tally) {
+        self.matrices += other.matrices;
+        self.worst = self.worst.max(other.worst);
+        self.made += other.made;
+        self.most = self.most.max(other.most);
     }
 
     fn print(&self) {
         let [product, rows, columns] = self.worst.shares();
+        let Tally {
+            name,
+            matrices,
+            made,
+            most,
+            ..
+        } = self;
+        let skipped = u64::from(TURNS) * matrices - made;
         println!(
-            "{:<18}{:>9}{product:>14.6}{rows:>14.6}{columns:>14.6}",
-            self.name, self.matrices
+            "{name:<18}{matrices:>9}{product:>14.6}{rows:>14.6}{columns:>14.6}\
+             {made:>9}{skipped:>9}{most:>6}"
         );
     }
 }
@@ -60,14 +84,15 @@ fn worked_matrices_agree_and_are_accurate() {
     });
     let mut all = Tally::new("all");
     for tally in &tallies {
-        all.add(tally.matrices, tally.worst);
+        all.add_all(tally);
     }
     assert_eq!(all.matrices, MATRICES);
+    assert_eq!(all.most, TURNS, "no matrix cost all turns");
     tallies.push(all);
-    println!("\nThe largest error seen, as a share of 2^44:");
+    println!("\nThe largest error seen, as a share of 2^44, and the turns made and skipped:");
     println!(
-        "{:<18}{:>9}{:>14}{:>14}{:>14}",
-        "kind", "matrices", "Q times R", "rows of Q", "columns of R"
+        "{:<18}{:>9}{:>14}{:>14}{:>14}{:>9}{:>9}{:>6}",
+        "kind", "matrices", "Q times R", "rows of Q", "columns of R", "made", "skipped", "most"
     );
     tallies.iter().for_each(Tally::print);
 }
@@ -112,7 +137,7 @@ fn tally_kind(kind: Kind, seed: u64) -> Tally {
     let mut tally = Tally::new(kind.name());
     for number in 0..PER_KIND {
         let matrix = kind.matrix(&mut Random::for_case(seed, number));
-        tally.add(1, compare_matrix(seed, number, &matrix));
+        tally.add(compare_matrix(seed, number, &matrix));
     }
     tally
 }
@@ -120,13 +145,13 @@ fn tally_kind(kind: Kind, seed: u64) -> Tally {
 fn tally_edges(seed: u64) -> Tally {
     let mut tally = Tally::new("edges");
     for (number, matrix) in edges().iter().enumerate() {
-        tally.add(1, compare_matrix(seed, number as u64, matrix));
+        tally.add(compare_matrix(seed, number as u64, matrix));
     }
     tally
 }
 
-/// Takes one matrix through all five calls and answers its errors.
-fn compare_matrix(seed: u64, number: u64, matrix: &Matrix) -> Errors {
+/// Takes one matrix through all five calls and answers its errors and the turns that it cost.
+fn compare_matrix(seed: u64, number: u64, matrix: &Matrix) -> (Errors, u32) {
     let record = write_matrix(matrix);
     let case = Case::new(TEST, seed, number, &record);
     let mut random = case.random();
@@ -137,62 +162,71 @@ fn compare_matrix(seed: u64, number: u64, matrix: &Matrix) -> Errors {
     );
     let reply = both.load(&record);
     both.require(reply.number == 0, "Load refused a matrix that was heard");
-    work_in_instalments(&mut both, &mut random);
+    let job = work_in_instalments(&mut both, &mut random);
     let errors = check_result(&both, matrix);
     let fetched = both.fetched();
     check_reading_back(&case, &fetched);
     check_whole(&case, &record, &fetched);
-    errors
+    check_one_run(&case, &record, job);
+    (errors, job.made)
 }
 
-/// Works the loaded matrix to the end and fetches the result. The budgets split the work in
-/// different ways, and calls that must be refused stand between the Runs.
-fn work_in_instalments(both: &mut Both, random: &mut Random) {
+/// Works the loaded matrix to the end, fetches the result and answers the job. The budgets split
+/// the work in different ways, and calls that must be refused stand between the Runs.
+fn work_in_instalments(both: &mut Both, random: &mut Random) -> Job {
     let budget = random.choose(&[1, 3, 40, 130, 65535]);
-    let (mut turn, mut allowed) = (0, 0);
+    let (mut job, mut allowed) = (Job::LOADED, 0);
     while allowed < TURNS {
         if random.one_in(3) {
-            refused_call(both, turn, random);
+            refused_call(both, job, random);
         }
         let allowance = random.between(0, budget) as u16;
-        let before = turn;
         allowed += u32::from(allowance);
-        turn = allowed.min(TURNS);
+        let turn = allowed.min(TURNS);
+        let reply = both.run(job, allowance);
         let expected = RunReply {
             number: 0,
-            turn,
-            count: turn - before,
+            job: Job::new(turn, reply.job.made),
+            count: turn - job.turn,
             clamps: Clamps::NONE,
         };
-        let reply = both.run(before, allowance);
         both.require(reply == expected, "Run answers something else than its sum");
+        job = reply.job;
     }
-    refused_call(both, turn, random);
-    let reply = both.fetch(turn);
+    refused_call(both, job, random);
+    let reply = both.fetch(job);
     both.require(reply.number == 0, "Fetch refused a worked matrix");
+    job
+}
+
+/// A job that does not exist: a turn number beyond the last, or more turns made than there were.
+fn no_job(job: Job, random: &mut Random) -> Job {
+    let turn = random.choose(&[121, 122, 240, u32::MAX]);
+    let made = random.choose(&[job.turn + 1, 121, u32::MAX]);
+    random.choose(&[Job { turn, ..job }, Job { made, ..job }, Job { turn, made }])
 }
 
 /// Makes a call that the specification refuses, whatever the area holds.
-fn refused_call(both: &mut Both, turn: u32, random: &mut Random) {
-    let beyond = random.choose(&[121, 122, 240, u32::MAX]);
+fn refused_call(both: &mut Both, job: Job, random: &mut Random) {
+    let no_job = no_job(job, random);
     let few_words = random.choose(&[0, 1, 511]);
     let few_bytes = random.choose(&[0, 1, 2048]);
     let (words, bytes) = both.lent();
     let number = match random.below(6) {
-        0 => both.run(beyond, 9).number,
-        1 => both.fetch(beyond).number,
-        2 if turn < TURNS => both.fetch(turn).number,
+        0 => both.run(no_job, 9).number,
+        1 => both.fetch(no_job).number,
+        2 if !job.is_finished() => both.fetch(job).number,
         3 => {
             both.lend(few_words, bytes);
-            both.run(turn, 9).number
+            both.run(job, 9).number
         }
         4 => {
             both.lend(few_words, bytes);
-            both.fetch(turn).number
+            both.fetch(job).number
         }
         _ => {
             both.lend(words, few_bytes);
-            both.fetch(turn).number
+            both.fetch(job).number
         }
     };
     both.lend(words, bytes);
@@ -230,11 +264,9 @@ fn check_result(both: &Both, matrix: &Matrix) -> Errors {
 fn check_reading_back(case: &Case, fetched: &[u8]) {
     let mut other = Both::new(case.clone());
     let reply = other.read(fetched);
-    other.require(
-        reply.number == 0 && reply.turn == TURNS,
-        "Read refused a fetched record",
-    );
-    other.fetch(reply.turn);
+    other.require(reply.number == 0, "Read refused a fetched record");
+    other.require(reply.job == Job::new(120, 0), "Read answered another job");
+    other.fetch(reply.job);
     other.require(
         other.fetched() == fetched,
         "a record was not written again byte for byte",
@@ -253,4 +285,12 @@ fn check_whole(case: &Case, record: &[u8], fetched: &[u8]) {
         other.fetched() == fetched,
         "Whole and the instalments differ",
     );
+}
+
+/// All turns in one Run make as many as the instalments made.
+fn check_one_run(case: &Case, record: &[u8], job: Job) {
+    let mut other = Both::new(case.clone());
+    let loaded = other.load(record).job;
+    let at_once = other.run(loaded, 120).job;
+    other.require(at_once == job, "one Run and the instalments differ");
 }

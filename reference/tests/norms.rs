@@ -6,6 +6,7 @@ mod common;
 use common::{Both, Case};
 use reference::area::{WorkArea, AREA_WORDS, COLUMNS, ROWS};
 use reference::clamps::Clamps;
+use reference::job::Job;
 use reference::random::Random;
 use reference::rotation::GAIN;
 use reference::schedule::{self, Turn, TURNS};
@@ -90,6 +91,15 @@ fn random_part(rest: u64, random: &mut Random) -> i64 {
     }
 }
 
+/// A leading pair that no turn skips: where the lower word is 0, the upper one is negative.
+fn turned([u, v]: [i32; 2]) -> [i32; 2] {
+    if v == 0 && u > 0 {
+        [-u, v]
+    } else {
+        [u, v]
+    }
+}
+
 /// A column behind the leading one.
 fn other_column(leading: usize, random: &mut Random) -> usize {
     leading + 1 + random.below(COLUMNS - leading - 1)
@@ -101,7 +111,11 @@ fn rows_near(norm: u64, outside: Outside, turn: Turn, random: &mut Random) -> Wo
     let chosen = other_column(turn.column, random);
     for column in turn.column..COLUMNS {
         let outside = outside.has(column, turn.column, chosen);
-        let [u, v] = words_at(norm, outside, random);
+        let mut pair = words_at(norm, outside, random);
+        if column == turn.column {
+            pair = turned(pair);
+        }
+        let [u, v] = pair;
         area.set_word(turn.upper, column, u);
         area.set_word(turn.lower, column, v);
     }
@@ -141,6 +155,9 @@ struct Met {
     /// Areas with at least one column above it.
     outside: u64,
     clamps: Clamps,
+    /// Turns, and those of them that were not skipped.
+    turns: u32,
+    made: u32,
 }
 
 /// The largest sum of squares of a column over these rows, from the leading column on.
@@ -168,9 +185,16 @@ where
                 }
             }
             let Met {
-                inside, outside, ..
+                inside,
+                outside,
+                turns,
+                made,
+                ..
             } = met;
-            println!("norm {norm}: {inside} inside, {outside} outside");
+            println!(
+                "norm {norm}: {inside} inside, {outside} outside, {made} of {turns} turns made"
+            );
+            assert!(made > turns / 2, "most turns were skipped at {norm}");
             assert!(inside >= AREAS_PER_NORM, "few areas inside of {norm}");
             assert!(outside >= 4 * AREAS_PER_NORM, "few areas outside of {norm}");
             clamps += met.clamps;
@@ -184,8 +208,8 @@ where
     fn compare_one(&self, number: u64, norm: u64, outside: Outside, met: &mut Met) {
         let case = Case::of_words(self.test, self.seed, number);
         let mut random = case.random();
-        let mut turn = random.below(TURNS as usize) as u32;
-        let first = schedule::turns()[turn as usize];
+        let mut job = Job::new(random.below(TURNS as usize) as u32, 0);
+        let first = schedule::turns()[job.turn as usize];
         let area = (self.make)(norm, outside, first, &mut random);
         match longest(&area, &(self.rows)(first), first.column) > u128::from(norm) {
             true => met.outside += 1,
@@ -194,10 +218,12 @@ where
         let mut both = Both::new(case);
         both.fill_area(&area.to_words());
         for budget in self.budgets {
-            let reply = both.run(turn, random.between(1, budget) as u16);
+            let reply = both.run(job, random.between(1, budget) as u16);
             met.clamps += reply.clamps;
-            turn = reply.turn;
+            met.turns += reply.count;
+            job = reply.job;
         }
+        met.made += job.made;
     }
 }
 
@@ -236,11 +262,12 @@ fn leading_words_at_the_end_of_the_range_agree() {
         let length = (i32::MAX as u64) - random.below(40) as u64;
         let outside = random.one_in(2);
         let mut words = [0; AREA_WORDS];
-        let [u, v] = words_at(length * length, outside, &mut random);
+        let [u, v] = turned(words_at(length * length, outside, &mut random));
         (words[14 * COLUMNS + 14], words[15 * COLUMNS + 14]) = (u, v);
         let mut both = Both::new(case);
         both.fill_area(&words);
-        let reply = both.run(119, 1);
+        let reply = both.run(Job::new(119, 0), 1);
+        both.require(reply.job.made == 1, "the turn was skipped");
         both.require(reply.clamps.q == 0, "a word 0 of Q was clamped");
         match (both.area().word(14, 14), reply.clamps.r) {
             (i32::MAX, 0) => at_end += 1,

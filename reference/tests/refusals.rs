@@ -5,34 +5,68 @@
 mod common;
 
 use std::collections::BTreeSet;
+use std::ops::RangeInclusive;
 
 use common::{Both, Case};
 use reference::area::AREA_WORDS;
 use reference::cases::Kind;
+use reference::job::Job;
 use reference::matrix::{Complex, Matrix};
 use reference::random::Random;
 use reference::records::write_matrix;
+use reference::replies::RunReply;
 
 const AREA_LENGTHS: [usize; 5] = [0, 1, 511, 512, 513];
 const BUFFER_LENGTHS: [usize; 5] = [0, 1, 2048, 2049, 2050];
-const TURN_NUMBERS: [u32; 7] = [0, 1, 119, 120, 121, 256, u32::MAX];
 const ALLOWANCES: [u16; 7] = [0, 1, 2, 119, 120, 121, 65535];
 
-/// Makes calls on fresh memory, one case each, and gathers the numbers they answer.
+/// Every turn number of a job that exists, and the first beyond.
+const TURN_NUMBERS: RangeInclusive<u32> = 0..=121;
+
+/// More turns than there are. Some of these are small or negative in a narrower number.
+const FAR_BEYOND: [u32; 8] = [122, 128, 255, 256, 1 << 16, 1 << 31, u32::MAX - 1, u32::MAX];
+
+/// For each turn number as many turns made, one fewer and one more, none, and far too many.
+fn jobs() -> impl Iterator<Item = Job> {
+    TURN_NUMBERS.chain(FAR_BEYOND).flat_map(|turn| {
+        let around = [0, turn.saturating_sub(1), turn, turn.saturating_add(1)];
+        let made: BTreeSet<u32> = around.into_iter().chain(FAR_BEYOND).collect();
+        made.into_iter().map(move |made| Job { turn, made })
+    })
+}
+
+/// Whether test 5 fails.
+fn is_no_job(job: Job) -> bool {
+    job.turn > 120 || job.made > job.turn
+}
+
+/// Makes calls on fresh memory, one case each, and gathers the numbers they answer and the sets of
+/// tests that fail.
 struct Numbers {
     test: &'static str,
     cases: u64,
     seen: BTreeSet<u8>,
+    sets: BTreeSet<Vec<u8>>,
 }
 
 impl Numbers {
     fn new(test: &'static str) -> Self {
-        let seen = BTreeSet::new();
         Numbers {
             test,
             cases: 0,
-            seen,
+            seen: BTreeSet::new(),
+            sets: BTreeSet::new(),
         }
+    }
+
+    /// The number that is due: that of the first test that fails, of all in the order in which they
+    /// are made.
+    fn due(&mut self, tests: &[(u8, bool)]) -> u8 {
+        let failing = tests.iter().filter(|(_, fails)| *fails);
+        let failing: Vec<u8> = failing.map(|(number, _)| *number).collect();
+        let first = failing.first().copied().unwrap_or(0);
+        self.sets.insert(failing);
+        first
     }
 
     fn call(&mut self, record: &[u8], words: usize, bytes: usize, call: impl Fn(&mut Both) -> u8) {
@@ -117,32 +151,79 @@ fn load() {
 #[test]
 fn run() {
     let mut numbers = Numbers::new("Run");
-    for turn in TURN_NUMBERS {
+    for job in jobs() {
         for allowance in ALLOWANCES {
             for words in AREA_LENGTHS {
-                numbers.call(&[], words, 2049, |both| both.run(turn, allowance).number);
+                let due = numbers.due(&[(3, words < 512), (5, is_no_job(job))]);
+                let refused = RunReply {
+                    number: due,
+                    job,
+                    ..RunReply::default()
+                };
+                numbers.call(&[], words, 2049, |both| {
+                    let reply = both.run(job, allowance);
+                    both.require(reply.number == due, "another number was due");
+                    both.require(due == 0 || reply == refused, "another job was due");
+                    reply.number
+                });
             }
         }
     }
     numbers.assert_seen(&[0, 3, 5]);
+    assert_eq!(numbers.sets.len(), 4, "not every set of tests failed");
 }
 
 #[test]
 fn fetch() {
     let mut numbers = Numbers::new("Fetch");
-    for area in result_areas() {
-        for turn in TURN_NUMBERS {
+    for (area, is_damaged) in result_areas().into_iter().zip([false, true, true]) {
+        for job in jobs() {
             for words in AREA_LENGTHS {
                 for bytes in BUFFER_LENGTHS {
+                    let due = numbers.due(&[
+                        (3, words < 512),
+                        (5, is_no_job(job)),
+                        (6, job.turn < 120),
+                        (7, bytes < 2049),
+                        (8, is_damaged),
+                    ]);
                     numbers.call(&[], words, bytes, |both| {
                         both.fill_area(&area);
-                        both.fetch(turn).number
+                        let number = both.fetch(job).number;
+                        both.require(number == due, "another number was due");
+                        number
                     });
                 }
             }
         }
     }
     numbers.assert_seen(&[0, 3, 5, 6, 7, 8]);
+    assert_eq!(numbers.sets.len(), 32, "not every set of tests failed");
+}
+
+/// Load answers the job (0, 0) and Read (120, 0), and (0, 0) where it refuses.
+#[test]
+fn jobs_of_load_and_read() {
+    let mut numbers = Numbers::new("Jobs of Load and Read");
+    for words in AREA_LENGTHS {
+        for record in matrix_records() {
+            numbers.call(&record, words, 2049, |both| {
+                let reply = both.load(&record);
+                both.require(reply.job == Job::new(0, 0), "Load answered another job");
+                both.require(reply.number == 0 || reply.heard == 0, "Load answered more");
+                reply.number
+            });
+        }
+        for record in result_records() {
+            numbers.call(&record, words, 2049, |both| {
+                let reply = both.read(&record);
+                let turn = if reply.number == 0 { 120 } else { 0 };
+                both.require(reply.job == Job::new(turn, 0), "Read answered another job");
+                reply.number
+            });
+        }
+    }
+    numbers.assert_seen(&[0, 1, 2, 3, 4, 8]);
 }
 
 /// Fetch believes the words of the area and not the turn number alone.
@@ -150,12 +231,13 @@ fn fetch() {
 fn fetch_at_120_of_an_area_that_is_not_worked_to_the_end() {
     let record = write_matrix(&Kind::FullRange.matrix(&mut Random::new(304)));
     let mut both = Both::new(Case::new("unfinished areas", 304, 0, &record));
-    both.load(&record);
-    assert_eq!(both.fetch(120).number, 8);
-    both.run(0, 119);
-    assert_eq!(both.fetch(120).number, 8);
-    both.run(119, 1);
-    assert_eq!(both.fetch(120).number, 0);
+    let loaded = both.load(&record).job;
+    let finished = Job::new(120, 120);
+    assert_eq!(both.fetch(finished).number, 8);
+    let job = both.run(loaded, 119).job;
+    assert_eq!(both.fetch(finished).number, 8);
+    both.run(job, 1);
+    assert_eq!(both.fetch(finished).number, 0);
 }
 
 #[test]

@@ -9,6 +9,7 @@ use common::words::arbitrary_area;
 use common::{Both, Case};
 use reference::area::{AREA_WORDS, COLUMNS};
 use reference::clamps::Clamps;
+use reference::job::Job;
 use reference::random::Random;
 use reference::schedule::{self, TURNS};
 
@@ -76,11 +77,13 @@ impl Turns {
             let mut both = Both::new(case);
             both.fill_area(&arbitrary(&large, &mut random));
             let first = random.below((TURNS - TURNS_PER_AREA + 1) as usize) as u32;
-            let end = first + TURNS_PER_AREA;
-            for turn in first..end {
-                turns.count(both.run(turn, 1).clamps);
+            let mut job = Job::new(first, 0);
+            for _ in 0..TURNS_PER_AREA {
+                let reply = both.run(job, 1);
+                turns.count(reply.clamps);
+                job = reply.job;
             }
-            let rest = both.run(end, 120).clamps;
+            let rest = both.run(job, 120).clamps;
             both.require(large.start == 0 || rest.r == 0, "small words of R clamped");
             both.require(large.end == 32 || rest.q == 0, "small words of Q clamped");
         }
@@ -117,7 +120,7 @@ fn clamps_at_the_ends(large: Range<usize>, turn: u32, allowance: u16) -> Clamps 
     let words = at_the_ends(&large, &mut case.random());
     let mut both = Both::new(case);
     both.fill_area(&words);
-    both.run(turn, allowance).clamps
+    both.run(Job::new(turn, 0), allowance).clamps
 }
 
 /// Two words at the ends of the range are a point on a diagonal. Unless a turn is by a multiple of
@@ -180,7 +183,8 @@ fn the_leading_column_alone_counts_once_and_in_r() {
             words[COLUMNS * rows.lower + rows.column] = lower;
             let mut both = Both::new(Case::of_words("leading column", 605, turn.into()));
             both.fill_area(&words);
-            assert_eq!(both.run(turn, 1).clamps, Clamps { r: 1, q: 0 });
+            let clamps = both.run(Job::new(turn, 0), 1).clamps;
+            assert_eq!(clamps, Clamps { r: 1, q: 0 });
             assert_eq!(both.area().word(rows.upper, rows.column), MAX);
             assert_eq!(both.area().word(rows.lower, rows.column), 0);
         }
@@ -196,17 +200,19 @@ fn instalments_add_up_on_each_side() {
         let words = arbitrary_area(&mut random);
         let mut at_once = Both::new(case.clone());
         at_once.fill_area(&words);
-        let all = at_once.run(0, 120).clamps;
+        let all = at_once.run(Job::LOADED, 120);
         let mut in_parts = Both::new(case);
         in_parts.fill_area(&words);
-        let (mut turn, mut sum) = (0, Clamps::NONE);
-        while turn < TURNS {
-            let reply = in_parts.run(turn, random.between(0, 50) as u16);
+        let (mut job, mut sum) = (Job::LOADED, Clamps::NONE);
+        while !job.is_finished() {
+            let reply = in_parts.run(job, random.between(0, 50) as u16);
             sum += reply.clamps;
-            turn = reply.turn;
+            job = reply.job;
         }
-        in_parts.require(sum == all, "instalments count other clamps than one Run");
-        seen += all;
+        let same = sum == all.clamps;
+        in_parts.require(same, "instalments count other clamps than one Run");
+        in_parts.require(job == all.job, "instalments make other turns than one Run");
+        seen += sum;
     }
     assert!(seen.r > 0 && seen.q > 0);
 }

@@ -1,6 +1,7 @@
 //! The stored outputs of the programs are what the reference makes, and the run-only cases among
 //! them show what they are there to show.
 
+use std::collections::BTreeSet;
 use std::fs;
 use std::path::Path;
 
@@ -42,12 +43,12 @@ fn the_run_only_cases_are_there() {
         "Load of 257 bytes into 513 words: number 0",
         "Load of 258 bytes into 513 words: number 2",
         "The 513th word is as it was",
-        "Run of 119 from turn 0: number 0, next turn 119, turns made 119",
-        "Run of 120 from turn 0: number 0, next turn 120, turns made 120",
-        "Run of 121 from turn 0: number 0, next turn 120, turns made 120",
-        "Run of 1 from turn 119: number 0, next turn 120, turns made 1",
-        "Run of 1 from turn 120: number 0, next turn 120, turns made 0",
-        "Fetch at turn 120: number 0",
+        "Run of 119 from job (0, 0): number 0, next job (119, 119), count 119",
+        "Run of 120 from job (0, 0): number 0, next job (120, 120), count 120",
+        "Run of 121 from job (0, 0): number 0, next job (120, 120), count 120",
+        "Run of 1 from job (119, 119): number 0, next job (120, 120), count 1",
+        "Run of 1 from job (120, 120): number 0, next job (120, 120), count 0",
+        "Fetch at job (120, 120): number 0",
         "A single element 1\n  Load of 257 bytes into 512 words: number 4",
         "All parts -32768\n  Load of 257 bytes into 512 words: number 4",
     ] {
@@ -73,7 +74,7 @@ fn a_diagonal_is_heard_above_16_and_refused_otherwise() {
         // The same line, with the digest of an area that is as it was.
         assert_eq!(lines_behind(&listing, title), refused, "{title}");
     }
-    assert!(refused.len() == 1 && refused[0].contains("number 4, turn 0, heard 0;"));
+    assert!(refused.len() == 1 && refused[0].contains("number 4, job (0, 0), heard 0;"));
     for (title, heard) in [
         ("Diagonal real parts 17, all other parts 32767", 255),
         (
@@ -82,8 +83,53 @@ fn a_diagonal_is_heard_above_16_and_refused_otherwise() {
         ),
     ] {
         let lines = lines_behind(&listing, title);
-        let accepted = format!("number 0, turn 0, heard {heard};");
+        let accepted = format!("number 0, job (0, 0), heard {heard};");
         assert!(lines.len() == 4 && lines[0].contains(&accepted), "{title}");
+    }
+}
+
+/// A diagonal costs none of the turns and stays as it was loaded, a full matrix costs all, and half
+/// of the antennas cost some.
+#[test]
+fn the_listing_shows_what_matrices_cost() {
+    let listing = listing();
+    for (title, made) in [
+        ("A matrix with parts of all sizes", 120),
+        ("Diagonal elements (32767, 0), all others 0", 0),
+        ("Parts of all sizes for antennas 0 to 3, all others 0", 44),
+    ] {
+        let lines = lines_behind(&listing, title);
+        let run = "Run of 120 from job (0, 0): number 0, next job";
+        let line = lines.iter().find(|line| line.contains(run));
+        let line = line.unwrap_or_else(|| panic!("{title}: no Run of all turns"));
+        let next = format!("{run} (120, {made}), count 120,");
+        assert!(line.contains(&next), "{title}: {line}");
+        let unchanged = digests(lines[0]) == digests(line);
+        assert_eq!(unchanged, made == 0, "{title}");
+    }
+}
+
+#[test]
+fn jobs_that_do_not_exist_are_refused_with_5_and_given_back() {
+    let listing = listing();
+    let lines = lines_behind(&listing, "Jobs, with parts of all sizes");
+    let expected = [
+        "Load of 257 bytes into 512 words: number 0, job (0, 0), heard 120;",
+        "Run of 7 from job (5, 6): number 5, next job (5, 6), count 0,",
+        "Fetch at job (5, 6): number 5;",
+        "Run of 7 from job (121, 0): number 5, next job (121, 0), count 0,",
+        "Run of 0 from job (6, 6): number 0, next job (6, 6), count 0,",
+        "Fetch at job (119, 119): number 6;",
+        "Fetch at job (120, 121): number 5;",
+    ];
+    assert_eq!(lines.len(), expected.len());
+    for (line, expected) in lines.iter().zip(expected) {
+        assert!(line.trim_start().starts_with(expected), "{line}");
+    }
+    for memory in ["area ", "buffer "] {
+        let kept = lines.iter().map(|line| digests(line));
+        let kept: BTreeSet<&str> = kept.filter(|digest| digest.starts_with(memory)).collect();
+        assert_eq!(kept.len(), 1, "a call changed the {memory}");
     }
 }
 
@@ -113,7 +159,9 @@ fn all_turns_leave_the_same_area_in_any_instalments() {
     let listing = listing();
     let (full, _) = listing.split_once("A single element 1").expect("a title");
     let (_, full) = full.split_once("513th").expect("the longer area");
-    let mut worked = full.lines().filter(|line| line.contains("next turn 120"));
+    let mut worked = full
+        .lines()
+        .filter(|line| line.contains("next job (120, 120)"));
     let first = digests(worked.next().expect("a Run to the end"));
     assert!(worked.all(|line| digests(line) == first));
 }

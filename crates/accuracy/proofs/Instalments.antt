@@ -8,11 +8,11 @@ use lib.ListN.{length}
 use Rattle.lists.specs.Lists.{sumOf}
 use Rattle.lists.specs.Histories.{afterAll, Each}
 use Rattle.lists.proofs.Histories.{Along, each-of}
-use Rattle.engine.specs.Run.{runMade, runBy, runOf}
+use Rattle.engine.specs.Run.{runDone, runBy, runOf}
 use Rattle.engine.proofs.Accepted.{run-passes}
-use Rattle.accuracy.specs.Demand3.{loaded, RunCall, Call, run, fetch, State, Accepted, InStep, after, Load, start, EachInStep}
-use Rattle.accuracy.specs.Instalments.{instalments, lastFetch, instalmentCalls, InstalmentsPossible, RefusedAnywhere}
-use Rattle.accuracy.proofs.WorkspaceAfter.{after-length}
+use Rattle.accuracy.specs.Demand3.{Call, run, fetch, State, Accepted, InStep, after, Load, start, EachInStep}
+use Rattle.accuracy.specs.Instalments.{nextRun, nextFetch, instalments, afterInstalments, instalmentCalls, InstalmentsPossible, RefusedAnywhere}
+use Rattle.accuracy.proofs.WorkspaceAfter.{after-length, made-le}
 use Rattle.accuracy.proofs.Demand3.{first, start-is, room, Standing, standing-start, standing-next, fetch-iff}
 use Rattle.accuracy.proofs.Possible.{Stepping, refused-stays}
 
@@ -30,79 +30,61 @@ taken-in-step s (fetch f) t = t
 
 module _ (l : Load) where
   -- a Run in step
-  module _ (s : State) (turn : ℕ) (h : Standing l s) (e : turn ≡ s .turn) (budget : ℕ) where
-    next : RunCall
-    next = record { turn = turn; budget = budget; lent = loaded }
-
-    run-taken : Accepted s (run next)
-    unfolding next
-    run-taken = run-passes turn (s .workspace) (record {
+  module _ (s : State) (h : Standing l s) (budget : ℕ) where
+    run-taken : Accepted s (run (nextRun s budget))
+    run-taken = run-passes (s .job) (s .workspace) (record {
       room = rw (h .workspace) (omega (arith, after-length (first l) (room l) (min 120 (s .granted)) (omega arith), room l));
-      before = omega (arith, h .turn);
+      possible = record { turn = omega (arith, h .turn); made = omega (arith, h .turn, h .made, made-le (first l) (room l) (min 120 (s .granted))) };
     })
 
-    next-standing : Standing l (after s (run next))
-    unfolding next
-    next-standing = standing-next l s (run next) h (λ z. (refl, e))
+    next-standing : Standing l (after s (run (nextRun s budget)))
+    next-standing = standing-next l s (run (nextRun s budget)) h (λ z. (refl, refl))
 
-    next-granted : after s (run next) .granted ≡ s .granted + budget
-    unfolding next runOf runBy runMade
+    next-granted : after s (run (nextRun s budget)) .granted ≡ s .granted + budget
+    unfolding runOf runBy runDone
     next-granted = rw run-taken
 
-    next-turn : min 120 (turn + budget) ≡ after s (run next) .turn
-    next-turn = omega (arith, next-standing .turn, next-granted, h .turn)
-
   -- Runs in step, and what follows
-  goes : (s : State) (turn : ℕ) → Standing l s → turn ≡ s .turn → (budgets : List ℕ) (rest : List Call)
-      → Along after Taken (afterAll after s (instalments turn budgets)) rest → Along after Taken s (instalments turn budgets ++ rest)
-  unfolding instalments Along afterAll Taken next
-  goes s turn h e [] rest a = a
-  goes s turn h e (b ∷ budgets) rest a =
-      ((run-taken s turn h e b, (refl, e)), goes (after s (run (next s turn h e b))) (min 120 (turn + b)) (next-standing s turn h e b) (next-turn s turn h e b) budgets rest a)
+  goes : (s : State) → Standing l s → (budgets : List ℕ) (rest : List Call)
+      → Along after Taken (afterAll after s (instalments s budgets)) rest → Along after Taken s (instalments s budgets ++ rest)
+  unfolding instalments Along afterAll Taken
+  goes s h [] rest a = a
+  goes s h (b ∷ budgets) rest a =
+      ((run-taken s h b, (refl, refl)), goes (after s (run (nextRun s b))) (next-standing s h b) budgets rest a)
 
   -- the state after them
   record Ending (s : State) (granted : ℕ) : Type 0 where
     standing : Standing l s
     all : s .granted ≡ granted
 
-  ends : (s : State) (turn : ℕ) → Standing l s → turn ≡ s .turn → (budgets : List ℕ) → Ending (afterAll after s (instalments turn budgets)) (s .granted + sumOf budgets)
-  unfolding instalments afterAll sumOf next
-  ends s turn h e [] = record { standing = h; all = omega arith }
-  ends s turn h e (b ∷ budgets) =
-      let n = ends (after s (run (next s turn h e b))) (min 120 (turn + b)) (next-standing s turn h e b) (next-turn s turn h e b) budgets in
-      record { standing = n .standing; all = omega (arith, n .all, next-granted s turn h e b) }
+  ends : (s : State) → Standing l s → (budgets : List ℕ) → Ending (afterAll after s (instalments s budgets)) (s .granted + sumOf budgets)
+  unfolding instalments afterAll sumOf
+  ends s h [] = record { standing = h; all = omega arith }
+  ends s h (b ∷ budgets) =
+      let n = ends (after s (run (nextRun s b))) (next-standing s h b) budgets in
+      record { standing = n .standing; all = omega (arith, n .all, next-granted s h b) }
 
   -- ---- from an accepted Load on, and a Fetch
   module _ (budgets buffer : List ℕ) where
-    at-start : 0 ≡ start l .turn
-    at-start = sym (ap (λ (s : State). s .turn) (start-is l))
-
-    end : State
-    end = afterAll after (start l) (instalments 0 budgets)
-
-    at-end : Ending end (sumOf budgets)
-    unfolding end
+    at-end : Ending (afterInstalments l budgets) (sumOf budgets)
     at-end =
-        let n = ends (start l) 0 (standing-start l) at-start budgets in
+        let n = ends (start l) (standing-start l) budgets in
         let z : start l .granted ≡ 0 = ap (λ (s : State). s .granted) (start-is l) in
         record { standing = n .standing; all = omega (arith, n .all, z) }
 
-    last-in-step : InStep end (fetch (lastFetch budgets buffer))
-    last-in-step = (refl, omega (arith, at-end .standing .turn, at-end .all))
-
-    all-taken : Each after Taken (start l) (instalmentCalls budgets buffer)
-    unfolding Along Taken end
+    all-taken : Each after Taken (start l) (instalmentCalls l budgets buffer)
+    unfolding Along Taken
     all-taken =
-        each-of after Taken (start l) (instalmentCalls budgets buffer)
-        (goes (start l) 0 (standing-start l) at-start budgets (fetch (lastFetch budgets buffer) ∷ []) (last-in-step, tt))
+        each-of after Taken (start l) (instalmentCalls l budgets buffer)
+        (goes (start l) (standing-start l) budgets (fetch (nextFetch (afterInstalments l budgets) buffer) ∷ []) ((refl, refl), tt))
 
-    last-accepted : Accepted end (fetch (lastFetch budgets buffer)) ↔ ((120 ≤ sumOf budgets) × (2049 ≤ length buffer))
+    last-accepted : Accepted (afterInstalments l budgets) (fetch (nextFetch (afterInstalments l budgets) buffer)) ↔ ((120 ≤ sumOf budgets) × (2049 ≤ length buffer))
     last-accepted =
-        subst (λ (n : ℕ). Accepted end (fetch (lastFetch budgets buffer)) ↔ ((120 ≤ n) × (2049 ≤ length buffer))) (at-end .all)
-        (fetch-iff l end (at-end .standing) (lastFetch budgets buffer) last-in-step)
+        subst (λ (n : ℕ). Accepted (afterInstalments l budgets) (fetch (nextFetch (afterInstalments l budgets) buffer)) ↔ ((120 ≤ n) × (2049 ≤ length buffer))) (at-end .all)
+        (fetch-iff l (afterInstalments l budgets) (at-end .standing) (nextFetch (afterInstalments l budgets) buffer) (refl, refl))
 
 pub instalments-possible : InstalmentsPossible
-unfolding EachInStep Taken end
+unfolding EachInStep Taken
 instalments-possible l budgets buffer = record {
   in-step = λ c p z. taken-in-step _ c (all-taken l budgets buffer c p);
   runs-accepted = λ r p. all-taken l budgets buffer (run r) p .0;

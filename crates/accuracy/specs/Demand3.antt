@@ -1,5 +1,5 @@
--- Demand 3, as document 01's "Lists of calls" spells it out, with the clamps by side (document 02, U1): one statement about every list of later calls
--- after an accepted Load. Each call does what its own definition says (`loadOf`, `runOf`, `fetchOf`), which the contracts of the calls equate the code
+-- Demand 3, as document 01's "Lists of calls" spells it out, with the clamps by side (document 02, U1) and over jobs (U5): one statement about every list of
+-- later calls after an accepted Load. Each call does what its own definition says (`loadOf`, `runOf`, `fetchOf`), which the contracts of the calls equate the code
 -- with. Assumes nothing.
 use mathlib.Core.Path.{_≡_}
 use mathlib.Core.Logic.{_↔_}
@@ -15,7 +15,8 @@ use Rattle.schedule.specs.Schedule.{rotationCount, rotationAt}
 use Rattle.matrix_record.specs.MatrixRecord.{realEntry}
 use Rattle.result_record.specs.ResultRecord.{resultBytes, resultRecord}
 use Rattle.workspace.specs.Workspace.{wordIn, R, Q}
-use Rattle.workspace.specs.Rotations.{workspaceSaturations, rotationsMade}
+use Rattle.workspace.specs.Rotations.{workspaceSaturations, wordsAfter, turnsMade}
+use Rattle.engine.specs.declared.job.Job.{Job}
 use Rattle.engine.specs.declared.run.RunReply.{RunReply}
 use Rattle.engine.specs.Load.{loadRefusal, loadOf}
 use Rattle.engine.specs.Run.{RunOutcome, runRefusal, runOf}
@@ -29,15 +30,15 @@ pub data Lent : Type 0 where
   loaded : Lent
   other : List ℤ → Lent
 
--- a Run: the turn number that it is handed, its allowance, and what it is lent
+-- a Run: the job that it is handed, its allowance, and what it is lent
 pub record RunCall : Type 0 where
-  pub turn : ℕ
+  pub job : Job
   pub budget : ℕ
   pub lent : Lent
 
--- a Fetch: the turn number that it is handed, what it is lent, and the buffer as it is handed over
+-- a Fetch: the job that it is handed, what it is lent, and the buffer as it is handed over
 pub record FetchCall : Type 0 where
-  pub turn : ℕ
+  pub job : Job
   pub lent : Lent
   pub buffer : List ℕ
 
@@ -45,9 +46,9 @@ pub data Call : Type 0 where
   run : RunCall → Call
   fetch : FetchCall → Call
 
-abbrev pub turnOf : Call → ℕ
-turnOf (run r) = r .turn
-turnOf (fetch f) = f .turn
+abbrev pub jobOf : Call → Job
+jobOf (run r) = r .job
+jobOf (fetch f) = f .job
 
 abbrev pub lentOf : Call → Lent
 lentOf (run r) = r .lent
@@ -58,8 +59,8 @@ lentOf (fetch f) = f .lent
 pub record State : Type 0 where
   -- the words of the workspace that Load filled
   pub workspace : List ℤ
-  -- the turn number that Load or the last accepted Run answered
-  pub turn : ℕ
+  -- the job that Load or the last accepted Run answered
+  pub job : Job
   -- the sum of the allowances of the accepted Runs so far
   pub granted : ℕ
 
@@ -76,41 +77,41 @@ leftIn s (other m) l = s .workspace
 -- ---- a call, by its own definition
 
 abbrev pub ran : State → RunCall → RunOutcome
-ran s r = runOf (r .turn) (r .budget) (wordsOf s (r .lent))
+ran s r = runOf (r .job) (r .budget) (wordsOf s (r .lent))
 
 abbrev pub reply : State → RunCall → RunReply
 reply s r = ran s r .reply
 
 -- the buffer as a Fetch leaves it
 abbrev pub fetched : State → FetchCall → List ℕ
-fetched s f = fetchOf (f .turn) (wordsOf s (f .lent)) (f .buffer) .buffer
+fetched s f = fetchOf (f .job) (wordsOf s (f .lent)) (f .buffer) .buffer
 
 -- the number of the first test that fails, 0 for none
 abbrev pub refusal : State → Call → ℕ
-refusal s (run r) = runRefusal (r .turn) (wordsOf s (r .lent))
-refusal s (fetch f) = fetchRefusal (f .turn) (wordsOf s (f .lent)) (f .buffer)
+refusal s (run r) = runRefusal (r .job) (wordsOf s (r .lent))
+refusal s (fetch f) = fetchRefusal (f .job) (wordsOf s (f .lent)) (f .buffer)
 
 -- none of the call's tests fails
 abbrev pub Accepted : State → Call → Type 0
 Accepted s c = refusal s c ≡ 0
 
--- lent the workspace that Load filled and handed the turn number that Load or the last accepted Run answered
+-- lent the workspace that Load filled and handed the job that Load or the last accepted Run answered, both parts
 abbrev pub InStep : State → Call → Type 0
-InStep s c = (lentOf c ≡ loaded) × (turnOf c ≡ s .turn)
+InStep s c = (lentOf c ≡ loaded) × (jobOf c ≡ s .job)
 
 -- ---- from call to call
 
 -- the one where a call was accepted (its number is 0), else the other
-abbrev pub ifAccepted : ℕ → ℕ → ℕ → ℕ
+abbrev pub ifAccepted : {A : Type 0} → ℕ → A → A → A
 ifAccepted zero x y = x
 ifAccepted (suc number) x y = y
 
--- after a Run: an accepted one answers the next turn number, and its allowance counts
+-- after a Run: an accepted one answers the next job, and its allowance counts
 abbrev pub moved : State → RunCall → RunOutcome → State
 moved s r o =
     record {
       workspace = leftIn s (r .lent) (o .workspace);
-      turn = ifAccepted (o .reply .number) (o .reply .turn) (s .turn);
+      job = ifAccepted (o .reply .number) (o .reply .job) (s .job);
       granted = ifAccepted (o .reply .number) (s .granted + r .budget) (s .granted);
     }
 
@@ -132,7 +133,7 @@ pub record Load : Type 0 where
 unfoldable pub start : Load → State
 start l =
     let o = loadOf (l .bytes) (l .lent) in
-    record { workspace = o .workspace; turn = o .reply .turn; granted = 0 }
+    record { workspace = o .workspace; job = o .reply .job; granted = 0 }
 
 -- ---- the places of a list
 
@@ -149,9 +150,13 @@ EachInStep l calls = Each after (λ s c. Accepted s c → InStep s c) (start l) 
 
 -- ---- the promise
 
--- the words after the first k rotations of the schedule
+-- the words after the first k turns of the schedule
 unfoldable pub workspaceAfter : List ℤ → ℕ → List ℤ
-workspaceAfter l k = rotationsMade 0 k l
+workspaceAfter l k = wordsAfter 0 k l
+
+-- how many of these turns are truly made
+unfoldable pub madeAfter : List ℤ → ℕ → ℕ
+madeAfter l k = turnsMade 0 k l
 
 -- the sum of products of columns a and b, over the 16 rows; of a column with itself, the square of its length
 unfoldable pub columnsProduct : List ℤ → ℕ → ℕ → ℤ
@@ -159,19 +164,25 @@ columnsProduct l a b = sum 16 (λ i. wordIn l i a *ℤ wordIn l i b)
 
 -- what is promised of a list of calls
 pub record Kept (l : Load) (calls : List Call) : Type 0 where
-  -- no word is ever clamped: step 4 counts none on either side in any turn made, and every Run, a refused one too, answers 0 clamps in R and 0 in Q
+  -- no word is ever clamped: step 4 counts none on either side in any turn, and every Run, a refused one too, answers 0 clamps in R and 0 in Q
   pub no-turn-clamps : (p : Point calls) (k : ℕ) → k < min rotationCount (reached l p .granted)
       → workspaceSaturations (rotationAt k) (workspaceAfter (start l .workspace) k) ≡ noSaturations
   pub no-run-clamps : (r : RunCall) (p : Place (run r) calls) → (reply (found l p) r .«clamps_r» ≡ 0) × (reply (found l p) r .«clamps_q» ≡ 0)
   -- each accepted Run answers the smaller of 120 and the sum of the allowances of the accepted Runs so far, its own included
   pub turn-number : (r : RunCall) (p : Place (run r) calls) → Accepted (found l p) (run r)
-      → reply (found l p) r .turn ≡ min rotationCount (found l p .granted + r .budget)
+      → reply (found l p) r .job .turn ≡ min rotationCount (found l p .granted + r .budget)
+  -- and, of the turns truly made, those of so many turns from the first on: the same in total however the allowances cut the work
+  pub made-total : (r : RunCall) (p : Place (run r) calls) → Accepted (found l p) (run r)
+      → reply (found l p) r .job .made ≡ madeAfter (start l .workspace) (min rotationCount (found l p .granted + r .budget))
+  -- which are never more than its turn number, and so 120 at most
+  pub made-few : (r : RunCall) (p : Place (run r) calls) → Accepted (found l p) (run r)
+      → (reply (found l p) r .job .made ≤ reply (found l p) r .job .turn) × (reply (found l p) r .job .made ≤ rotationCount)
   -- a Fetch in step is accepted exactly when the allowances make 120 or more and its buffer has 2,049 bytes or more
   pub fetch-accepted : (f : FetchCall) (p : Place (fetch f) calls) → InStep (found l p) (fetch f)
       → Accepted (found l p) (fetch f) ↔ ((rotationCount ≤ found l p .granted) × (resultBytes ≤ length (f .buffer)))
   -- the workspace is what turns 0, 1, .. in tree order make of the loaded words: as many as the allowances make, 120 at most
   pub words : (p : Point calls) → reached l p .workspace ≡ workspaceAfter (start l .workspace) (min rotationCount (reached l p .granted))
-  -- after each of the turns made so far, the sum of products of any two columns lies within 2^44 of that of the loaded words
+  -- after each of the turns so far, the sum of products of any two columns lies within 2^44 of that of the loaded words
   pub bounded : (p : Point calls) (k : ℕ) → k ≤ min rotationCount (reached l p .granted) → (a b : ℕ) → a < 32 → b < 32
       → Within (columnsProduct (workspaceAfter (start l .workspace) k) a b -ℤ columnsProduct (start l .workspace) a b) (2 ^ 44)
   -- once the allowances make 120 or more, the matrix is worked to the end

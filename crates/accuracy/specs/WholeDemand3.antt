@@ -9,24 +9,26 @@ use Rattle.lists.specs.Histories.{afterAll}
 use Rattle.schedule.specs.Schedule.{rotationCount}
 use Rattle.matrix_record.specs.MatrixRecord.{realEntry}
 use Rattle.workspace.specs.Workspace.{R, Q}
+use Rattle.engine.specs.Job.{loadedJob}
 use Rattle.engine.specs.Load.{loadRefusal, loadOf}
 use Rattle.engine.specs.Whole.{wholeRefusal, wholeOf}
 use Rattle.accuracy.specs.Factorization.{Factorization}
 use Rattle.accuracy.specs.Demand3.{loaded, RunCall, FetchCall, Call, run, fetch, reply, fetched, Accepted, after, Load, start, Kept}
 
 abbrev pub wholeRun : RunCall
-wholeRun = record { turn = 0; budget = rotationCount; lent = loaded }
+wholeRun = record { job = loadedJob; budget = rotationCount; lent = loaded }
 
-abbrev pub wholeFetch : List ℕ → FetchCall
-wholeFetch buffer = record { turn = rotationCount; lent = loaded; buffer = buffer }
+-- handed the job that the Run answers
+abbrev pub wholeFetch : Load → List ℕ → FetchCall
+wholeFetch l buffer = record { job = reply (start l) wholeRun .job; lent = loaded; buffer = buffer }
 
-abbrev pub wholeCalls : List ℕ → List Call
-wholeCalls buffer = run wholeRun ∷ fetch (wholeFetch buffer) ∷ []
+abbrev pub wholeCalls : Load → List ℕ → List Call
+wholeCalls l buffer = run wholeRun ∷ fetch (wholeFetch l buffer) ∷ []
 
 -- the list keeps the promise, its Fetch is accepted, and Whole answers and leaves what Load and the list do
 pub record WholeKept (l : Load) (buffer : List ℕ) : Type 0 where
-  pub kept : Kept l (wholeCalls buffer)
-  pub accepted : Accepted (after (start l) (run wholeRun)) (fetch (wholeFetch buffer))
+  pub kept : Kept l (wholeCalls l buffer)
+  pub accepted : Accepted (after (start l) (run wholeRun)) (fetch (wholeFetch l buffer))
   pub answer : wholeOf (l .bytes) (l .lent) buffer .reply
       ≡ record {
         number = 0;
@@ -34,8 +36,8 @@ pub record WholeKept (l : Load) (buffer : List ℕ) : Type 0 where
         «clamps_r» = reply (start l) wholeRun .«clamps_r»;
         «clamps_q» = reply (start l) wholeRun .«clamps_q»;
       }
-  pub words : wholeOf (l .bytes) (l .lent) buffer .workspace ≡ afterAll after (start l) (wholeCalls buffer) .workspace
-  pub written : wholeOf (l .bytes) (l .lent) buffer .buffer ≡ fetched (after (start l) (run wholeRun)) (wholeFetch buffer)
+  pub words : wholeOf (l .bytes) (l .lent) buffer .workspace ≡ afterAll after (start l) (wholeCalls l buffer) .workspace
+  pub written : wholeOf (l .bytes) (l .lent) buffer .buffer ≡ fetched (after (start l) (run wholeRun)) (wholeFetch l buffer)
   -- so all of demand 3 holds of what Whole leaves: no word is clamped, and the matrix is worked to the end
   pub no-clamps : (wholeOf (l .bytes) (l .lent) buffer .reply .«clamps_r» ≡ 0) × (wholeOf (l .bytes) (l .lent) buffer .reply .«clamps_q» ≡ 0)
   pub factored : Factorization (realEntry (l .bytes)) (R (wholeOf (l .bytes) (l .lent) buffer .workspace)) (Q (wholeOf (l .bytes) (l .lent) buffer .workspace))

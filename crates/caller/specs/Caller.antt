@@ -1,4 +1,4 @@
--- Calls one after the other, each on the words and the turn number, or on the sums, that the one before left: all replies, and what is left in every
+-- Calls one after the other, each on the words and the job, or on the sums, that the one before left: all replies, and what is left in every
 -- lent buffer, on all inputs. Assumes nothing.
 use mathlib.Core.List.{List}
 use Prim.Native.Nat.{ℕ}
@@ -28,9 +28,9 @@ pub record HalvesOutcome : Type 0 where
 unfoldable pub halvesOf : List ℕ → List ℤ → List ℕ → HalvesOutcome
 halvesOf rec workspace buffer =
     let loaded = loadOf rec workspace in
-    let half = runOf (loaded .reply .turn) 60 (loaded .workspace) in
-    let end = runOf (half .reply .turn) 60 (half .workspace) in
-    let fetched = fetchOf (end .reply .turn) (end .workspace) buffer in
+    let half = runOf (loaded .reply .job) 60 (loaded .workspace) in
+    let end = runOf (half .reply .job) 60 (half .workspace) in
+    let fetched = fetchOf (end .reply .job) (end .workspace) buffer in
     record {
       reply = record { load = loaded .reply; first = half .reply; second = end .reply; number = fetched .number };
       workspace = end .workspace;
@@ -46,7 +46,7 @@ pub record AgainOutcome : Type 0 where
 unfoldable pub againOf : List ℕ → List ℤ → List ℕ → AgainOutcome
 againOf rec workspace buffer =
     let taken = readOf rec workspace in
-    let fetched = fetchOf (taken .reply .turn) (taken .workspace) buffer in
+    let fetched = fetchOf (taken .reply .job) (taken .workspace) buffer in
     record { reply = record { read = taken .reply; number = fetched .number }; workspace = taken .workspace; buffer = fetched .buffer }
 
 pub record CopyOutcome : Type 0 where
@@ -55,11 +55,11 @@ pub record CopyOutcome : Type 0 where
   pub buffer : List ℕ
   pub copy : List ℕ
 
--- Whole, and Fetch at turn number 120 into another buffer
+-- Whole, and Fetch with the job (120, 0) into another buffer
 unfoldable pub copyOf : List ℕ → List ℤ → List ℕ → List ℕ → CopyOutcome
 copyOf rec workspace buffer copy =
     let done = wholeOf rec workspace buffer in
-    let fetched = fetchOf 120 (done .workspace) copy in
+    let fetched = fetchOf (record { turn = 120; made = 0 }) (done .workspace) copy in
     record { reply = record { whole = done .reply; number = fetched .number }; workspace = done .workspace; buffer = done .buffer; copy = fetched .buffer }
 
 pub record PairOutcome : Type 0 where

@@ -1,6 +1,7 @@
 // A caller of all calls, proved from their contracts alone: a factorization in two instalments, a stored result fetched again, a copy of a result,
 // the matrix of two snapshots, and the weights of a matrix. Each answers the replies of all calls that it makes, so that whoever calls it sees the first refusal. The words here are document
 // 01's own.
+use engine::job::Job;
 use engine::load::LoadReply;
 use engine::read::ReadReply;
 use engine::run::RunReply;
@@ -51,9 +52,9 @@ pub fn factor_in_halves(bytes: &[u8], area: &mut [i32], buffer: &mut [u8]) -> Ha
     ensures { λ r. ⌜ record { reply = r; workspace = now (area .exit); buffer = now (buffer .exit) } ≡ halvesOf (now (bytes .entry)) (now (area .entry)) (now (buffer .entry)) ⌝ }
 {
     let load = hubqr::hubqr_load(bytes, area);
-    let first = hubqr::hubqr_run(load.turn, HALF, area);
-    let second = hubqr::hubqr_run(first.turn, HALF, area);
-    let number = hubqr::hubqr_fetch(second.turn, area, buffer);
+    let first = hubqr::hubqr_run(load.job, HALF, area);
+    let second = hubqr::hubqr_run(first.job, HALF, area);
+    let number = hubqr::hubqr_fetch(second.job, area, buffer);
     HalvesReply {
         load,
         first,
@@ -67,16 +68,17 @@ pub fn fetch_again(bytes: &[u8], area: &mut [i32], buffer: &mut [u8]) -> AgainRe
     ensures { λ r. ⌜ record { reply = r; workspace = now (area .exit); buffer = now (buffer .exit) } ≡ againOf (now (bytes .entry)) (now (area .entry)) (now (buffer .entry)) ⌝ }
 {
     let read = hubqr::hubqr_read(bytes, area);
-    let number = hubqr::hubqr_fetch(read.turn, area, buffer);
+    let number = hubqr::hubqr_fetch(read.job, area, buffer);
     AgainReply { read, number }
 }
 
-// Whole, and Fetch of the same result into a second buffer.
+// Whole, and Fetch of the same result into a second buffer. Whole answers no job, and the one of a record that was read will do.
 pub fn fetch_copy(bytes: &[u8], area: &mut [i32], buffer: &mut [u8], copy: &mut [u8]) -> CopyReply
     ensures { λ r. ⌜ record { reply = r; workspace = now (area .exit); buffer = now (buffer .exit); copy = now (copy .exit) } ≡ copyOf (now (bytes .entry)) (now (area .entry)) (now (buffer .entry)) (now (copy .entry)) ⌝ }
 {
     let whole = hubqr::hubqr_whole(bytes, area, buffer);
-    let number = hubqr::hubqr_fetch(120, area, copy);
+    let job = Job { turn: 120, made: 0 };
+    let number = hubqr::hubqr_fetch(job, area, copy);
     CopyReply { whole, number }
 }
 

@@ -1,5 +1,5 @@
 -- The gain is the largest such number: it is one, the next number is none, and what is larger still is none either. With 26, 27, 29 or 30 for the 28 the
--- same proof would do; that there are 28 is fixed by M10 and M12, as `Largest` says. Assumes nothing.
+-- same proof would do; that there are 28 is fixed by M12, as `Largest` says. Assumes nothing.
 use Prim.Native.Nat.{ℕ, suc, _*_, _^_, _≤_, _<_}
 use native.Mathlib.Nat.{le-trans, lt-irrefl, lt-of-lt-of-le, mul-le-mul-right, mul-le-mul}
 use native.Mathlib.Decide.{decLe}

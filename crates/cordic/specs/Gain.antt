@@ -16,9 +16,8 @@ abbrev pub AtMost : ℕ → Type 0
 AtMost g = g * g * stretched 28 ≤ 2 ^ 60 * shrunk 28
 
 -- g is such a number, and every such number is at most g. This does not fix the 28: the factors for larger i are so near to 1 that the largest number is
--- the same for every count of micro-rotations from 15 on, 26 to 30 among them. The marked cases M10 and M12 (`cases` in the crate `engine_laws`) fix it:
--- n micro-rotations take (1, 0) and (-1, 0) to the upper word n, which step 3 then scales, to 16 with 26 or 27 of them, to 17 with 28, and to 18 with 29
--- or 30
+-- the same for every count of micro-rotations from 15 on, 26 to 30 among them. The marked case M12 (`cases` in the crate `engine_laws`) fixes it: n
+-- micro-rotations take (-1, 0) to the upper word n, which step 3 then scales, to 16 with 26 or 27 of them, to 17 with 28, and to 18 with 29 or 30
 pub record Largest (g : ℕ) : Type 0 where
   pub holds : AtMost g
   pub none-larger : (n : ℕ) → AtMost n → n ≤ g

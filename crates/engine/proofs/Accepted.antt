@@ -1,19 +1,20 @@
 -- What the number 0 of a call's tests says: that each test is passed; and a call that passes each test. Assumes nothing.
-use mathlib.Core.Path.{_≡_}
-use mathlib.Core.Bool.{true, false}
+use mathlib.Core.Path.{_≡_, refl, subst}
+use mathlib.Core.Bool.{Bool, true, false, _||_}
 use mathlib.Core.List.{List}
 use Prim.Native.Nat.{ℕ, _≤_}
 use native.Mathlib.Omega.{arith}
 use borrow.Author.Tests.{ltb-false, le-ltb}
-use lib.Dec.{ltb, eqb}
+use lib.Dec.{T, ltb, eqb}
 use lib.IntN.{ℤ}
 use lib.ListN.{length}
-use Rattle.refusals.specs.Refusals.{first, headerTest, bufferTest}
+use Rattle.refusals.specs.Refusals.{headerTest, bufferTest}
 use Rattle.refusals.proofs.Refusals.{first-none, if-passed, unless-passed, Header, header-passed, header-passes, buffer-passed, buffer-passes}
 use Rattle.matrix_record.specs.MatrixRecord.{heardByte}
 use Rattle.result_record.specs.ResultRecord.{recordR, isFinished}
 use Rattle.workspace.specs.Workspace.{workspaceTest, R}
-use Rattle.engine.specs.Turns.{turnTest, endTest}
+use Rattle.engine.specs.declared.job.Job.{Job}
+use Rattle.engine.specs.Job.{jobTest, endTest}
 use Rattle.engine.specs.Load.{loadRefusal}
 use Rattle.engine.specs.Run.{runRefusal}
 use Rattle.engine.specs.Fetch.{fetchRefusal}
@@ -28,8 +29,24 @@ room-passed l h = ltb-false _ _ (if-passed (ltb (length l) 512) 2 h)
 pub room-passes : (l : List ℤ) → 512 ≤ length l → workspaceTest l ≡ 0
 room-passes l h = rw (le-ltb (length l) 512 h)
 
-turn-passed : (turn : ℕ) → turnTest turn ≡ 0 → turn ≤ 120
-turn-passed turn h = ltb-false _ _ (if-passed (ltb 120 turn) 4 h)
+neither : (a b : Bool) → (a || b) ≡ false → (a ≡ false) × (b ≡ false)
+neither true b h = absurd (subst T h tt)
+neither false b h = (refl, h)
+
+-- a job that can be: its turn number is 120 at most, and no more turns are made than that
+pub record PossibleJob (job : Job) : Type 0 where
+  pub turn : job .turn ≤ 120
+  pub made : job .made ≤ job .turn
+
+job-passed : (job : Job) → jobTest job ≡ 0 → PossibleJob job
+unfolding jobTest
+job-passed job h =
+    let n = neither (ltb 120 (job .turn)) (ltb (job .turn) (job .made)) (if-passed (ltb 120 (job .turn) || ltb (job .turn) (job .made)) 4 h) in
+    record { turn = ltb-false _ _ (n .0); made = ltb-false _ _ (n .1) }
+
+job-passes : (job : Job) → PossibleJob job → jobTest job ≡ 0
+unfolding jobTest
+job-passes job h = rw (le-ltb 120 (job .turn) (h .turn), le-ltb (job .turn) (job .made) (h .made))
 
 -- ---- Load
 
@@ -51,43 +68,44 @@ load-passes rec l a = rw (header-passes 1 256 rec (a .header), room-passes l (a 
 
 -- ---- Run
 
-pub record RunAccepted (turn : ℕ) (l : List ℤ) : Type 0 where
+pub record RunAccepted (job : Job) (l : List ℤ) : Type 0 where
   pub room : 512 ≤ length l
-  pub before : turn ≤ 120
+  pub possible : PossibleJob job
 
-pub run-accepted : (turn : ℕ) (l : List ℤ) → runRefusal turn l ≡ 0 → RunAccepted turn l
+pub run-accepted : (job : Job) (l : List ℤ) → runRefusal job l ≡ 0 → RunAccepted job l
 unfolding runRefusal
-run-accepted turn l h = let a = first-none (workspaceTest l) _ h in record { room = room-passed l (a .0); before = turn-passed turn (a .1) }
+run-accepted job l h = let a = first-none (workspaceTest l) _ h in record { room = room-passed l (a .0); possible = job-passed job (a .1) }
 
-pub run-passes : (turn : ℕ) (l : List ℤ) → RunAccepted turn l → runRefusal turn l ≡ 0
+pub run-passes : (job : Job) (l : List ℤ) → RunAccepted job l → runRefusal job l ≡ 0
 unfolding runRefusal
-run-passes turn l h = rw (room-passes l (h .room), le-ltb 120 turn (h .before))
+run-passes job l h = rw (room-passes l (h .room), job-passes job (h .possible))
 
 -- ---- Fetch
 
-pub record FetchAccepted (turn : ℕ) (l : List ℤ) (buffer : List ℕ) : Type 0 where
+pub record FetchAccepted (job : Job) (l : List ℤ) (buffer : List ℕ) : Type 0 where
   pub room : 512 ≤ length l
-  pub last : turn ≡ 120
+  pub last : job .turn ≡ 120
+  pub made : job .made ≤ 120
   pub space : 2049 ≤ length buffer
   pub finished : isFinished (R l) ≡ true
 
-pub fetch-accepted : (turn : ℕ) (l : List ℤ) (buffer : List ℕ) → fetchRefusal turn l buffer ≡ 0 → FetchAccepted turn l buffer
+pub fetch-accepted : (job : Job) (l : List ℤ) (buffer : List ℕ) → fetchRefusal job l buffer ≡ 0 → FetchAccepted job l buffer
 unfolding fetchRefusal
-fetch-accepted turn l buffer h =
+fetch-accepted job l buffer h =
     let a = first-none (workspaceTest l) _ h in
-    let b = first-none (turnTest turn) _ (a .1) in
-    let c = first-none (endTest turn) _ (b .1) in
+    let b = first-none (jobTest job) _ (a .1) in
+    let c = first-none (endTest job) _ (b .1) in
     let d = first-none (bufferTest 2049 buffer) _ (c .1) in
-    let below = turn-passed turn (b .0) in
-    let above : 120 ≤ turn = ltb-false _ _ (if-passed (ltb turn 120) 5 (c .0)) in
-    record { room = room-passed l (a .0); last = omega arith; space = buffer-passed 2049 buffer (d .0); finished = unless-passed (isFinished (R l)) 7 (d .1) }
+    let below = job-passed job (b .0) in
+    let above : 120 ≤ job .turn = ltb-false _ _ (if-passed (ltb (job .turn) 120) 5 (c .0)) in
+    record { room = room-passed l (a .0); last = omega (arith, below .turn); made = omega (arith, below .turn, below .made); space = buffer-passed 2049 buffer (d .0); finished = unless-passed (isFinished (R l)) 7 (d .1) }
 
-pub fetch-passes : (turn : ℕ) (l : List ℤ) (buffer : List ℕ) → FetchAccepted turn l buffer → fetchRefusal turn l buffer ≡ 0
+pub fetch-passes : (job : Job) (l : List ℤ) (buffer : List ℕ) → FetchAccepted job l buffer → fetchRefusal job l buffer ≡ 0
 unfolding fetchRefusal
-fetch-passes turn l buffer f =
-    let below : turn ≤ 120 = omega arith in
-    let above : 120 ≤ turn = omega arith in
-    rw (room-passes l (f .room), le-ltb 120 turn below, le-ltb turn 120 above, buffer-passes 2049 buffer (f .space), f .finished)
+fetch-passes job l buffer f =
+    let possible : PossibleJob job = record { turn = omega (arith, f .last); made = omega (arith, f .last, f .made) } in
+    let above : 120 ≤ job .turn = omega (arith, f .last) in
+    rw (room-passes l (f .room), job-passes job possible, le-ltb (job .turn) 120 above, buffer-passes 2049 buffer (f .space), f .finished)
 
 -- ---- Read
 

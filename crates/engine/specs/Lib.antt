@@ -1,5 +1,5 @@
 -- The calls: what each answers and leaves in every lent buffer, on all inputs.
-pub mod Turns
+pub mod Job
 pub mod Load
 pub mod Run
 pub mod Fetch

@@ -5,8 +5,9 @@ use lib.IntN.{ℤ}
 use Rattle.refusals.specs.Refusals.{first}
 use Rattle.schedule.specs.Schedule.{rotationCount}
 use Rattle.workspace.specs.Workspace.{workspaceTest}
-use Rattle.workspace.specs.Rotations.{rotationsMade, saturationsCounted}
-use Rattle.engine.specs.Turns.{turnTest}
+use Rattle.workspace.specs.Rotations.{wordsAfter, saturationsCounted, turnsMade}
+use Rattle.engine.specs.Job.{jobTest}
+use Rattle.engine.specs.declared.job.Job.{Job}
 use Rattle.engine.specs.declared.run.RunReply.{RunReply}
 
 pub record RunOutcome : Type 0 where
@@ -14,24 +15,27 @@ pub record RunOutcome : Type 0 where
   pub workspace : List ℤ
 
 -- tests 3, 5
-unfoldable pub runRefusal : ℕ → List ℤ → ℕ
-runRefusal turn workspace = first (workspaceTest workspace) (turnTest turn)
+unfoldable pub runRefusal : Job → List ℤ → ℕ
+runRefusal job workspace = first (workspaceTest workspace) (jobTest job)
 
--- `count` rotations from turn number `turn` on: the next turn number, and of this call the turns made and the clamps of each side
--- (document 02, U1)
-unfoldable pub runMade : ℕ → ℕ → List ℤ → RunOutcome
-runMade turn count workspace =
-    let saturations = saturationsCounted turn count workspace in
+-- the job after `count` turns more: document 02's skipped turns count for the turn number, and only those truly made for the other part
+unfoldable pub nextJob : Job → ℕ → List ℤ → Job
+nextJob job count workspace = record { turn = job .turn + count; made = job .made + turnsMade (job .turn) count workspace }
+
+-- `count` turns: the next job, and of this call the turns and the clamps of each side (document 02, U1)
+unfoldable pub runDone : Job → ℕ → List ℤ → RunOutcome
+runDone job count workspace =
+    let saturations = saturationsCounted (job .turn) count workspace in
     record {
-      reply = record { number = 0; turn = turn + count; count = count; «clamps_r» = saturations .r; «clamps_q» = saturations .q };
-      workspace = rotationsMade turn count workspace;
+      reply = record { number = 0; job = nextJob job count workspace; count = count; «clamps_r» = saturations .r; «clamps_q» = saturations .q };
+      workspace = wordsAfter (job .turn) count workspace;
     }
 
--- by the number of the tests. Of the turns that remain, the smaller of the budget (document 01's allowance) and their number is made; a refusal answers
--- its number and the turn number as given, other fields 0, and changes nothing
-unfoldable pub runBy : ℕ → ℕ → ℕ → List ℤ → RunOutcome
-runBy zero turn budget workspace = runMade turn (min budget (rotationCount - turn)) workspace
-runBy (suc n) turn budget workspace = record { reply = record { number = suc n; turn = turn; count = 0; «clamps_r» = 0; «clamps_q» = 0 }; workspace = workspace }
+-- by the number of the tests. Of the turns that remain, the smaller of the budget (document 01's allowance) and their number is taken; a refusal answers
+-- its number and the job as given, other fields 0, and changes nothing
+unfoldable pub runBy : ℕ → Job → ℕ → List ℤ → RunOutcome
+runBy zero job budget workspace = runDone job (min budget (rotationCount - job .turn)) workspace
+runBy (suc n) job budget workspace = record { reply = record { number = suc n; job = job; count = 0; «clamps_r» = 0; «clamps_q» = 0 }; workspace = workspace }
 
-unfoldable pub runOf : ℕ → ℕ → List ℤ → RunOutcome
-runOf turn budget workspace = runBy (runRefusal turn workspace) turn budget workspace
+unfoldable pub runOf : Job → ℕ → List ℤ → RunOutcome
+runOf job budget workspace = runBy (runRefusal job workspace) job budget workspace

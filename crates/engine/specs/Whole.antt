@@ -9,7 +9,7 @@ use Rattle.result_record.specs.ResultRecord.{resultBytes, resultByte}
 use Rattle.schedule.specs.Schedule.{rotationCount}
 use Rattle.workspace.specs.Workspace.{workspaceTest, R, Q}
 use Rattle.workspace.specs.Loading.{loadedWords}
-use Rattle.workspace.specs.Rotations.{rotationsMade, saturationsCounted}
+use Rattle.workspace.specs.Rotations.{wordsAfter, saturationsCounted}
 use Rattle.engine.specs.declared.whole.WholeReply.{WholeReply}
 
 pub record WholeOutcome : Type 0 where
@@ -22,12 +22,12 @@ unfoldable pub wholeRefusal : List ℕ → List ℤ → List ℕ → ℕ
 wholeRefusal rec workspace buffer =
     first (headerTest matrixTag matrixBytes rec) (first (workspaceTest workspace) (first (bufferTest resultBytes buffer) (matrixTest rec)))
 
--- the workspace is left as Load and the 120 rotations make it, and the buffer holds the record of its R and Q; the clamps are those of each side
+-- the workspace is left as Load and the 120 turns make it, and the buffer holds the record of its R and Q; the clamps are those of each side
 -- (document 02, U1)
 unfoldable pub wholeDone : List ℕ → List ℤ → List ℕ → WholeOutcome
 wholeDone rec workspace buffer =
     let loaded = loadedWords rec workspace in
-    let words = rotationsMade 0 rotationCount loaded in
+    let words = wordsAfter 0 rotationCount loaded in
     let saturations = saturationsCounted 0 rotationCount loaded in
     record {
       reply = record { number = 0; heard = heardByte rec; «clamps_r» = saturations .r; «clamps_q» = saturations .q };

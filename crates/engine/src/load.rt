@@ -1,16 +1,14 @@
 // Load: a matrix record becomes the words of a workspace.
+use crate::job::Job;
 ghost use mathlib.Core.Path.{_≡_};
 ghost use Rattle.engine.specs.Load.{LoadOutcome, loadRefusal, loadOf};
 
-// The turn number of a loaded workspace.
-const FIRST_TURN: u32 = 0;
-
-// The refusal's number, the heard byte and the turn number.
+// The refusal's number, the heard byte and the job.
 #[repr(C)]
 pub struct LoadReply {
     pub number: u8,
     pub heard: u8,
-    pub turn: u32,
+    pub job: Job,
 }
 
 // The number of the first test that fails, 0 for none.
@@ -39,14 +37,15 @@ pub fn load(bytes: &[u8], workspace: &mut [i32]) -> LoadReply
         return LoadReply {
             number,
             heard: 0,
-            turn: 0,
+            job: Job { turn: 0, made: 0 },
         };
     }
     workspace::loading::fill_from_matrix(bytes, workspace);
     let heard = matrix_record::heard_byte(bytes);
+    let job = Job { turn: 0, made: 0 };
     LoadReply {
         number: 0,
         heard,
-        turn: FIRST_TURN,
+        job,
     }
 }

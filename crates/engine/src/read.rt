@@ -1,12 +1,13 @@
 // Read: a result record becomes the words of a workspace again.
+use crate::job::Job;
 ghost use mathlib.Core.Path.{_≡_};
 ghost use Rattle.engine.specs.Read.{ReadOutcome, readRefusal, readOf};
 
-// The refusal's number and the turn number.
+// The refusal's number and the job.
 #[repr(C)]
 pub struct ReadReply {
     pub number: u8,
-    pub turn: u32,
+    pub job: Job,
 }
 
 // The number of the first test that fails, 0 for none.
@@ -32,9 +33,15 @@ pub fn read(bytes: &[u8], workspace: &mut [i32]) -> ReadReply
 {
     let number = read_refusal(bytes, workspace);
     if number != 0 {
-        return ReadReply { number, turn: 0 };
+        return ReadReply {
+            number,
+            job: Job { turn: 0, made: 0 },
+        };
     }
     workspace::result::fill_from_result(bytes, workspace);
     let turn = schedule::COUNT as u32;
-    ReadReply { number: 0, turn }
+    ReadReply {
+        number: 0,
+        job: Job { turn, made: 0 },
+    }
 }

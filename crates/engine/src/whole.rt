@@ -45,13 +45,13 @@ pub fn whole(bytes: &[u8], workspace: &mut [i32], buffer: &mut [u8]) -> WholeRep
         };
     }
     workspace::loading::fill_from_matrix(bytes, workspace);
-    let saturations = workspace::rotations::make_rotations(0, schedule::COUNT, workspace);
+    let tally = workspace::rotations::take_turns(0, schedule::COUNT, workspace);
     workspace::result::write(workspace, buffer);
     let heard = matrix_record::heard_byte(bytes);
     WholeReply {
         number: 0,
         heard,
-        clamps_r: saturations.r,
-        clamps_q: saturations.q,
+        clamps_r: tally.saturations.r,
+        clamps_q: tally.saturations.q,
     }
 }

@@ -4,3 +4,4 @@ pub mod Unread
 pub mod Silence
 pub mod Spread
 pub mod RoundTrip
+pub mod Clear

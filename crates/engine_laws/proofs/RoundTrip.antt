@@ -3,8 +3,9 @@ use mathlib.Core.Path.{_≡_, refl, ap, _∙_}
 use mathlib.Core.List.{List, _++_}
 use Prim.Native.Nat.{ℕ, _≤_}
 use native.Mathlib.Omega.{arith}
+use lib.Dec.{lit≤}
 use lib.IntN.{ℤ}
-use lib.ListN.{length, getD, take, drop}
+use lib.ListN.{length, take, drop}
 use lib.Seq.{take-at}
 use Rattle.lists.specs.Lists.{filled, tabulate}
 use Rattle.lists.proofs.Tabulate.{length-tabulate, getD-tabulate, length-filled}
@@ -13,6 +14,8 @@ use Rattle.result_record.proofs.ResultRecord.{finished-same}
 use Rattle.workspace.specs.Workspace.{R, Q}
 use Rattle.workspace.specs.Reading.{readWord, readWords}
 use Rattle.workspace.proofs.Filled.{read-r, read-written, written-r, written-read}
+use Rattle.engine.specs.declared.job.Job.{Job}
+use Rattle.engine.specs.Job.{readJob}
 use Rattle.engine.specs.Fetch.{fetchRefusal, fetchBy, fetchOf}
 use Rattle.engine.specs.Read.{readRefusal, readBy, readOf}
 use Rattle.engine.proofs.Accepted.{fetch-accepted, fetch-passes, read-accepted, read-passes}
@@ -20,7 +23,7 @@ use Rattle.engine_laws.specs.RoundTrip.{Words32, Bytes, FetchThenRead, R
 
 -- ---- a fetched record
 
-module _ (turn : ℕ) (l : List ℤ) (buffer : List ℕ) (fits : Words32 l) (t : fetchRefusal turn l buffer ≡ 0) where
+module _ (job : Job) (l : List ℤ) (buffer : List ℕ) (fits : Words32 l) (t : fetchRefusal job l buffer ≡ 0) where
   -- it is accepted
   pub written-accepted : (other : List ℤ) → 512 ≤ length other → readRefusal (resultRecord (R l) (Q l)) other ≡ 0
   unfolding resultRecord resultByte
@@ -28,28 +31,29 @@ module _ (turn : ℕ) (l : List ℤ) (buffer : List ℕ) (fits : Words32 l) (t :
       read-passes (resultRecord (R l) (Q l)) other (record {
         header = record { tagged = getD-tabulate 2049 (resultByte (R l) (Q l)) 0 0 (omega arith); sized = length-tabulate 2049 (resultByte (R l) (Q l)) };
         room = room;
-        finished = finished-same (recordR (resultRecord (R l) (Q l))) (Q l) (R l) (Q l) (written-r l fits) ∙ fetch-accepted turn l buffer t .finished;
+        finished = finished-same (recordR (resultRecord (R l) (Q l))) (Q l) (R l) (Q l) (written-r l fits) ∙ fetch-accepted job l buffer t .finished;
       })
 
   -- and is what the first 2,049 bytes hold
-  pub written-is : take 2049 (fetchOf turn l buffer .buffer) ≡ resultRecord (R l) (Q l)
+  pub written-is : take 2049 (fetchOf job l buffer .buffer) ≡ resultRecord (R l) (Q l)
   unfolding fetchOf fetchBy filled resultRecord
   written-is = rw t (take-at (tabulate 2049 (resultByte (R l) (Q l))) (drop 2049 buffer) 2049 (length-tabulate 2049 (resultByte (R l) (Q l))))
 
 pub fetch-then-read : FetchThenRead
 unfolding readOf readBy
-fetch-then-read turn l other buffer fits t room =
-    rw (written-is turn l buffer fits t, written-accepted turn l buffer fits t other room, written-read l fits other (fetch-accepted turn l buffer t .room))
+fetch-then-read job l other buffer fits t room =
+    rw (written-is job l buffer fits t, written-accepted job l buffer fits t other room, written-read l fits other (fetch-accepted job l buffer t .room))
 
 -- ---- an accepted record
 
 -- Fetch accepts the workspace that Read filled
-filled-accepted : (rec : List ℕ) (l : List ℤ) (buffer : List ℕ) → readRefusal rec l ≡ 0 → 2049 ≤ length buffer → fetchRefusal 120 (readWords rec l) buffer ≡ 0
+filled-accepted : (rec : List ℕ) (l : List ℤ) (buffer : List ℕ) → readRefusal rec l ≡ 0 → 2049 ≤ length buffer → fetchRefusal readJob (readWords rec l) buffer ≡ 0
 filled-accepted rec l buffer t space =
     let s = read-accepted rec l t in
-    fetch-passes 120 (readWords rec l) buffer (record {
+    fetch-passes readJob (readWords rec l) buffer (record {
       room = omega (arith, length-filled 512 (readWord rec) l (s .room), s .room);
       last = refl;
+      made = lit≤ tt;
       space = space;
       finished = finished-same (R (readWords rec l)) (recordQ rec) (recordR rec) (recordQ rec) (read-r rec l) ∙ s .finished;
     })

@@ -1,5 +1,5 @@
 -- No call reads a word from 512 on. Assumes nothing.
-use mathlib.Core.Path.{_≡_, refl, sym, ap, _∙_}
+use mathlib.Core.Path.{_≡_, refl, sym, ap, ap₂, _∙_}
 use mathlib.Core.List.{List, _++_}
 use Prim.Native.Nat.{ℕ, zero, suc, _+_, _-_, _≤_, _<_, min}
 use native.Mathlib.Decide.{decLt}
@@ -18,10 +18,11 @@ use Rattle.result_record.proofs.ResultRecord.{finished-same, record-same}
 use Rattle.workspace.specs.Workspace.{workspaceTest, R, Q}
 use Rattle.workspace.specs.Loading.{loadedWord, loadedWords}
 use Rattle.workspace.specs.Reading.{readWord}
-use Rattle.workspace.specs.Rotations.{rotationsMade}
-use Rattle.workspace.proofs.SameWords.{SameWords, same-words, r-same, q-same, made-same, made-take, saturations-same}
+use Rattle.workspace.specs.Rotations.{wordsAfter}
+use Rattle.workspace.proofs.SameWords.{SameWords, same-words, r-same, q-same, words-same, words-take, saturations-same, turns-made-same}
 use Rattle.engine.specs.Load.{loadRefusal, loadBy, loadOf}
-use Rattle.engine.specs.Run.{runRefusal, runMade, runBy, runOf}
+use Rattle.engine.specs.declared.job.Job.{Job}
+use Rattle.engine.specs.Run.{runRefusal, nextJob, runDone, runBy, runOf}
 use Rattle.engine.specs.Fetch.{fetchRefusal, fetchBy, fetchOf}
 use Rattle.engine.specs.Read.{readRefusal, readBy, readOf}
 use Rattle.engine.specs.Whole.{wholeRefusal, wholeDone, wholeBy, wholeOf}
@@ -69,18 +70,19 @@ module _ (l m : List ℤ) (alike : Alike l m) where
   read-by zero rec = (refl, filled-alike (readWord rec) l m)
   read-by (suc n) rec = (refl, alike)
 
-  run-by : (number turn budget : ℕ) → runRefusal turn l ≡ number
-      → (runBy number turn budget l .reply ≡ runBy number turn budget m .reply) × Alike (runBy number turn budget l .workspace) (runBy number turn budget m .workspace)
-  unfolding runBy runMade
-  run-by zero turn budget h =
-      let s = run-accepted turn l h in
-      let k : ℕ = min budget (120 - turn) in
-      let within : turn + k ≤ 120 = omega (arith, s .before) in
+  run-by : (number : ℕ) (job : Job) (budget : ℕ) → runRefusal job l ≡ number
+      → (runBy number job budget l .reply ≡ runBy number job budget m .reply) × Alike (runBy number job budget l .workspace) (runBy number job budget m .workspace)
+  unfolding runBy runDone nextJob
+  run-by zero job budget h =
+      let s = run-accepted job l h in
+      let k : ℕ = min budget (120 - job .turn) in
+      let within : job .turn + k ≤ 120 = omega (arith, s .possible .turn) in
       let same = same-words l m alike in (
-        ap (λ (t : Saturations). record { number = 0; turn = turn + k; count = k; «clamps_r» = t .r; «clamps_q» = t .q }) (saturations-same l m (s .room) (room-same (s .room)) same turn k within),
-        made-take l m (s .room) (room-same (s .room)) same turn k within,
+        ap₂ (λ (t : Saturations) (n : ℕ). record { number = 0; job = record { turn = job .turn + k; made = job .made + n }; count = k; «clamps_r» = t .r; «clamps_q» = t .q })
+            (saturations-same l m (s .room) (room-same (s .room)) same (job .turn) k within) (turns-made-same l m (s .room) (room-same (s .room)) same (job .turn) k within),
+        words-take l m (s .room) (room-same (s .room)) same (job .turn) k within,
       )
-  run-by (suc n) turn budget h = (refl, alike)
+  run-by (suc n) job budget h = (refl, alike)
 
   fetch-by : (number : ℕ) (buffer : List ℕ) → fetchBy number l buffer ≡ fetchBy number m buffer
   unfolding fetchBy
@@ -100,8 +102,8 @@ module _ (l m : List ℤ) (alike : Alike l m) where
       let roomy : 512 ≤ length b = omega (arith, length-filled 512 (loadedWord rec) m (room-same space), room-same space) in
       let same : SameWords a b = same-words a b (filled-alike (loadedWord rec) l m) in (
         ap (λ (t : Saturations). record { number = 0; heard = heardByte rec; «clamps_r» = t .r; «clamps_q» = t .q }) (saturations-same a b room roomy same 0 120 (lit≤ tt)),
-        made-take a b room roomy same 0 120 (lit≤ tt),
-        buffer-same (rotationsMade 0 120 a) (rotationsMade 0 120 b) buffer (made-same a b room roomy same 0 120 (lit≤ tt)),
+        words-take a b room roomy same 0 120 (lit≤ tt),
+        buffer-same (wordsAfter 0 120 a) (wordsAfter 0 120 b) buffer (words-same a b room roomy same 0 120 (lit≤ tt)),
       )
   whole-by (suc n) rec buffer h = (refl, alike, refl)
 
@@ -111,9 +113,9 @@ module _ (l m : List ℤ) (alike : Alike l m) where
   unfolding loadRefusal
   load-number rec = rw test-same
 
-  run-number : (turn : ℕ) → runRefusal turn l ≡ runRefusal turn m
+  run-number : (job : Job) → runRefusal job l ≡ runRefusal job m
   unfolding runRefusal
-  run-number turn = rw test-same
+  run-number job = rw test-same
 
   read-number : (rec : List ℕ) → readRefusal rec l ≡ readRefusal rec m
   unfolding readRefusal
@@ -123,9 +125,9 @@ module _ (l m : List ℤ) (alike : Alike l m) where
   unfolding wholeRefusal
   whole-number rec buffer = rw test-same
 
-  fetch-number : (turn : ℕ) (buffer : List ℕ) → fetchRefusal turn l buffer ≡ fetchRefusal turn m buffer
+  fetch-number : (job : Job) (buffer : List ℕ) → fetchRefusal job l buffer ≡ fetchRefusal job m buffer
   unfolding fetchRefusal
-  fetch-number turn buffer = rw (test-same, finished-same (R l) (Q l) (R m) (Q m) (r-same l m (same-words l m alike)))
+  fetch-number job buffer = rw (test-same, finished-same (R l) (Q l) (R m) (Q m) (r-same l m (same-words l m alike)))
 
 pub load-alike : LoadAlike
 unfolding loadOf
@@ -133,11 +135,11 @@ load-alike rec l m alike = rw (load-number l m alike rec) (load-by l m alike (lo
 
 pub run-alike : RunAlike
 unfolding runOf
-run-alike turn budget l m alike = rw (← run-number l m alike turn) (run-by l m alike (runRefusal turn l) turn budget refl)
+run-alike job budget l m alike = rw (← run-number l m alike job) (run-by l m alike (runRefusal job l) job budget refl)
 
 pub fetch-alike : FetchAlike
 unfolding fetchOf
-fetch-alike turn l m buffer alike = rw (fetch-number l m alike turn buffer) (fetch-by l m alike (fetchRefusal turn m buffer) buffer)
+fetch-alike job l m buffer alike = rw (fetch-number l m alike job buffer) (fetch-by l m alike (fetchRefusal job m buffer) buffer)
 
 pub read-alike : ReadAlike
 unfolding readOf

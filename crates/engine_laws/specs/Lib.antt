@@ -4,5 +4,6 @@ pub mod Unread
 pub mod Silence
 pub mod Spread
 pub mod RoundTrip
+pub mod Clear
 pub mod Marked
 pub mod Numbers

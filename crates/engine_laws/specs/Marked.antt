@@ -1,6 +1,6 @@
 -- The marked cases M1 to M12 of document 01, "Bench values", and further ones: one table, and one statement over all its rows, computed from the
--- definitions that the contracts cite. The rows are numerals, document 01's own or worked out from its words and those of document 02, U1 and U3, and use
--- nothing of those definitions. Assumes nothing.
+-- definitions that the contracts cite. The rows are numerals, document 01's own or worked out from its words and those of document 02, U1, U3 and U5, and
+-- use nothing of those definitions. Assumes nothing.
 use mathlib.Core.Path.{_≡_, refl}
 use mathlib.Core.Bool.{cond}
 use mathlib.Core.List.{List, [], _∷_, _++_}
@@ -14,6 +14,7 @@ use Rattle.cordic.specs.MicroRotation.{oriented, orientedPair, microRotation, m
 use Rattle.lists.specs.Lists.{tabulate}
 use Rattle.rotation.specs.Column.{columnAt, rotatedAt, stored, columnStored}
 use Rattle.rotation.specs.Rotated.{rotatedWord, rotated, saturationsAt, saturationsOf}
+use Rattle.rotation.specs.Turn.{isClear, turned, turnSaturations, turnMade}
 use Rattle.rotation.specs.Saturations.{added}
 use Rattle.schedule.specs.Schedule.{stageRotations, survivors, stages, upFrom, columnStages, stagesRotations, columnsRotations, schedule, rotationAt}
 use Rattle.refusals.specs.Refusals.{headerTest}
@@ -21,9 +22,10 @@ use Rattle.matrix_record.specs.MatrixRecord.{partOf, realEntry, antennaHeard, h
 use Rattle.result_record.specs.ResultRecord.{resultWord, resultByte}
 use Rattle.workspace.specs.Loading.{loadedAt, loadedWord}
 use Rattle.workspace.specs.Workspace.{wordIn, R, Q}
-use Rattle.workspace.specs.Rotations.{workspaceSaturations, rotationsMade, saturationsCounted}
+use Rattle.workspace.specs.Rotations.{workspaceTurned, workspaceSaturations, workspaceMade, wordsAfter, saturationsCounted, turnsMade}
+use Rattle.engine.specs.Job.{jobTest}
 use Rattle.engine.specs.Load.{loadRefusal, loadBy, loadOf}
-use Rattle.engine.specs.Run.{runRefusal, runMade, runBy, runOf}
+use Rattle.engine.specs.Run.{runRefusal, nextJob, runDone, runBy, runOf}
 use Rattle.engine.specs.Whole.{wholeRefusal, wholeDone, wholeBy, wholeOf}
 
 pub data Case : Type 0 where
@@ -39,11 +41,16 @@ pub data Case : Type 0 where
   schedules : ℕ → ℕ → ℕ → ℕ → Case
   -- step 3 takes a word to another
   scales : ℤ → ℤ → Case
-  -- the leading pair (x, y) of a rotation of column 0 becomes the pair (u, v)
+  -- the leading pair (x, y) of a turn of column 0 becomes the pair (u, v)
   rotates : ℤ → ℤ → ℤ → ℤ → Case
   -- the last turn has the leading pair (x, y), and in a further column j the pair (u, v); all other words are zero. A Run of that turn alone answers
   -- these clamps in R and in Q
   clamps : ℤ → ℤ → ℕ → ℤ → ℤ → ℕ → ℕ → Case
+  -- with the same words a Run of that turn alone leaves this pair in the further column
+  leaves : ℤ → ℤ → ℕ → ℤ → ℤ → ℤ → ℤ → Case
+  -- the last turn has the leading pair (x, y), and all other words are zero. A Run of allowance 2 from the job (119, 7) answers the job (120, n) and a count
+  -- of 1
+  makes : ℤ → ℤ → ℕ → Case
 
 -- 257 bytes: 01, and these four at position p
 abbrev pub matrixWith : ℕ → List ℕ → List ℕ
@@ -76,10 +83,16 @@ Says (hears parts b h) =
 Says (writes i j w p bytes) = tabulate 4 (λ k. resultByte (R (workspaceWith i j w)) (Q (workspaceWith i j w)) (p + k)) ≡ bytes
 Says (schedules n j u l) = rotationAt n ≡ record { column = j; upper = u; lower = l }
 Says (scales w x) = scaled w ≡ x
-Says (rotates x y u v) = (getD (rotated 0 1 (rowsOf x y)) 0 (pos 0) ≡ u) × (getD (rotated 0 1 (rowsOf x y)) 32 (pos 0) ≡ v)
+Says (rotates x y u v) = (getD (turned 0 1 (rowsOf x y)) 0 (pos 0) ≡ u) × (getD (turned 0 1 (rowsOf x y)) 32 (pos 0) ≡ v)
 Says (clamps x y j u v r q) =
-    let reply = runOf 119 1 (lastRowsWith x y j u v) .reply in
+    let reply = runOf (record { turn = 119; made = 0 }) 1 (lastRowsWith x y j u v) .reply in
     (reply .«clamps_r» ≡ r) × (reply .«clamps_q» ≡ q)
+Says (leaves x y j u v w z) =
+    let words = runOf (record { turn = 119; made = 0 }) 1 (lastRowsWith x y j u v) .workspace in
+    (wordIn words 14 j ≡ w) × (wordIn words 15 j ≡ z)
+Says (makes x y n) =
+    let reply = runOf (record { turn = 119; made = 7 }) 2 (lastRowsWith x y 15 (pos 0) (pos 0)) .reply in
+    (reply .job ≡ record { turn = 120; made = n }) × (reply .count ≡ 1)
 
 abbrev pub AllSay : List Case → Type 0
 AllSay [] = Unit {0}
@@ -138,7 +151,7 @@ cases =
     -- 2^28, where 2^29 is exactly the half that is added: 2^29 - 1 in its place would give 163008218
     ∷ scales (pos 268435456) (pos 163008219)
     -- M10, M11, M12
-    ∷ rotates (pos 1) (pos 0) (pos 17) (pos 0)
+    ∷ rotates (pos 1) (pos 0) (pos 1) (pos 0)
     ∷ rotates (pos 0) (pos 1) (pos 1) (pos 0)
     ∷ rotates (negsuc 0) (pos 0) (pos 17) (pos 0)
     -- the same rounding in a whole rotation of a negative word: its 28 micro-rotations make 2^28 of it, and -1 under it, which is stored as 0
@@ -151,9 +164,24 @@ cases =
     ∷ clamps (pos 1048576) (pos 1048576) 16 (negsuc 2147483647) (pos 2147483647) 0 1
     -- the leading column is one of R; with it Q's last column, in the same turn
     ∷ clamps (pos 2147483647) (pos 2147483647) 31 (pos 2147483647) (pos 2147483647) 1 1
+    -- what is already clear: the lower leading word 0, the upper one 0 or more
+    ∷ rotates (pos 0) (pos 0) (pos 0) (pos 0)
+    ∷ rotates (pos 2147483647) (pos 0) (pos 2147483647) (pos 0)
+    -- its other words stay, where a turn of the leading pair (-1, 0) would make others of them; and it clamps none
+    ∷ leaves (pos 1) (pos 0) 15 (pos 1000) (negsuc 0) (pos 1000) (negsuc 0)
+    ∷ leaves (pos 0) (pos 0) 31 (pos 2147483647) (negsuc 2147483647) (pos 2147483647) (negsuc 2147483647)
+    ∷ leaves (negsuc 0) (pos 0) 15 (pos 1000) (negsuc 0) (negsuc 971) (negsuc 182)
+    ∷ clamps (pos 1) (pos 0) 16 (pos 2147483647) (pos 2147483647) 0 0
+    ∷ clamps (negsuc 0) (pos 0) 16 (pos 2147483647) (pos 2147483647) 0 1
+    -- a clear turn is not made, and counts all the same; any other is made
+    ∷ makes (pos 0) (pos 0) 7
+    ∷ makes (pos 1) (pos 0) 7
+    ∷ makes (negsuc 0) (pos 0) 8
+    ∷ makes (pos 0) (pos 1) 8
+    ∷ makes (pos 1) (negsuc 0) 8
     ∷ []
 
 pub marked : AllSay cases
-unfolding cases loadOf loadBy loadRefusal wholeOf wholeBy wholeDone wholeRefusal headerTest loadedAt realEntry partOf heardBelow antennaHeard resultByte resultWord R Q wordIn rotationAt schedule columnsRotations stagesRotations columnStages stages survivors upFrom stageRotations scaled saturate oriented orientedPair microRotation microRotations leading sign columnAt rotatedAt stored columnStored rotatedWord tabulate rotated total saturationsAt saturationsOf added workspaceSaturations rotationsMade saturationsCounted runRefusal runMade runBy runOf
+unfolding cases loadOf loadBy loadRefusal wholeOf wholeBy wholeDone wholeRefusal headerTest loadedAt realEntry partOf heardBelow antennaHeard resultByte resultWord R Q wordIn rotationAt schedule columnsRotations stagesRotations columnStages stages survivors upFrom stageRotations scaled saturate oriented orientedPair microRotation microRotations leading sign columnAt rotatedAt stored columnStored rotatedWord tabulate rotated total saturationsAt saturationsOf isClear turned turnSaturations turnMade added workspaceTurned workspaceSaturations workspaceMade wordsAfter saturationsCounted turnsMade jobTest runRefusal nextJob runDone runBy runOf
 marked =
-    (refl, (refl, (refl, (refl, (refl, (refl, (refl, (refl, (refl, (refl, (refl, (refl, (refl, ((refl, refl), ((refl, refl), ((refl, refl), ((refl, refl), (refl, (refl, (refl, (refl, (refl, (refl, (refl, (refl, (refl, (refl, (refl, (refl, (refl, (refl, (refl, (refl, (refl, (refl, ((refl, refl), ((refl, refl), ((refl, refl), ((refl, refl), ((refl, refl), ((refl, refl), ((refl, refl), ((refl, refl), ((refl, refl), tt))))))))))))))))))))))))))))))))))))))))))))
+    (refl, (refl, (refl, (refl, (refl, (refl, (refl, (refl, (refl, (refl, (refl, (refl, (refl, ((refl, refl), ((refl, refl), ((refl, refl), ((refl, refl), (refl, (refl, (refl, (refl, (refl, (refl, (refl, (refl, (refl, (refl, (refl, (refl, (refl, (refl, (refl, (refl, (refl, (refl, ((refl, refl), ((refl, refl), ((refl, refl), ((refl, refl), ((refl, refl), ((refl, refl), ((refl, refl), ((refl, refl), ((refl, refl), ((refl, refl), ((refl, refl), ((refl, refl), ((refl, refl), ((refl, refl), ((refl, refl), ((refl, refl), ((refl, refl), ((refl, refl), ((refl, refl), ((refl, refl), ((refl, refl), tt))))))))))))))))))))))))))))))))))))))))))))))))))))))))

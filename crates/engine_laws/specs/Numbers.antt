@@ -1,5 +1,5 @@
 -- Document 01, the table of numbers under "Calls and the order of tests": its eight examples, and an example of each number at each call that can
--- give it, as one table with one statement over all its rows, computed from the definitions that the contracts cite. The rows use document 01's own numbers.
+-- give it, with document 02's for number 5 (U5), as one table with one statement over all its rows, computed from the definitions that the contracts cite. The rows use document 01's own numbers.
 -- Where it can, a refused row fails the tests that follow as well, so that the rows tell the sequence of the tests. An accepted row (number 0) lies just
 -- beside what is refused. Assumes nothing.
 use mathlib.Core.Path.{_≡_, refl}
@@ -14,8 +14,10 @@ use Rattle.refusals.specs.Refusals.{headerTest}
 use Rattle.matrix_record.specs.MatrixRecord.{partOf, antennaHeard, heardBelow}
 use Rattle.result_record.specs.ResultRecord.{recordWord, recordR, isFinishedAt, isFinished}
 use Rattle.workspace.specs.Workspace.{wordIn, R}
+use Rattle.engine.specs.declared.job.Job.{Job}
+use Rattle.engine.specs.Job.{jobTest}
 use Rattle.engine.specs.Load.{loadRefusal, loadBy, loadOf}
-use Rattle.engine.specs.Run.{runRefusal, runMade, runBy, runOf}
+use Rattle.engine.specs.Run.{runRefusal, runDone, runBy, runOf}
 use Rattle.engine.specs.Fetch.{fetchRefusal, fetchBy, fetchOf}
 use Rattle.engine.specs.Read.{readRefusal, readBy, readOf}
 use Rattle.engine.specs.Whole.{wholeRefusal, wholeDone, wholeBy, wholeOf}
@@ -25,10 +27,10 @@ use Rattle.engine_laws.specs.Marked.{matrixHeard}
 pub data Example : Type 0 where
   -- record and workspace
   loading : List ℕ → List ℤ → ℕ → Example
-  -- turn number, budget and workspace
-  running : ℕ → ℕ → List ℤ → ℕ → Example
-  -- turn number, workspace and buffer
-  fetching : ℕ → List ℤ → List ℕ → ℕ → Example
+  -- job, budget and workspace
+  running : Job → ℕ → List ℤ → ℕ → Example
+  -- job, workspace and buffer
+  fetching : Job → List ℤ → List ℕ → ℕ → Example
   -- record and workspace
   reading : List ℕ → List ℤ → ℕ → Example
   -- record, workspace and buffer
@@ -36,14 +38,18 @@ pub data Example : Type 0 where
 
 abbrev pub Answers : Example → Type 0
 Answers (loading rec l n) = loadOf rec l .reply .number ≡ n
-Answers (running turn budget l n) = runOf turn budget l .reply .number ≡ n
-Answers (fetching turn l buffer n) = fetchOf turn l buffer .number ≡ n
+Answers (running job budget l n) = runOf job budget l .reply .number ≡ n
+Answers (fetching job l buffer n) = fetchOf job l buffer .number ≡ n
 Answers (reading rec l n) = readOf rec l .reply .number ≡ n
 Answers (factoring rec l buffer n) = wholeOf rec l buffer .reply .number ≡ n
 
 abbrev pub AllAnswer : List Example → Type 0
 AllAnswer [] = Unit {0}
 AllAnswer (e ∷ es) = Answers e × AllAnswer es
+
+-- a turn number, and turns made
+abbrev pub job : ℕ → ℕ → Job
+job turn made = record { turn = turn; made = made }
 
 -- this many words, and this many bytes, of zeros
 abbrev pub zeroWords : ℕ → List ℤ
@@ -80,28 +86,38 @@ examples =
     ∷ loading (1 ∷ zeroBytes 253 ++ 17 ∷ zeroBytes 2) (zeroWords 512) 0
     -- ---- Run: tests 3, 5
     -- 3: "511 words"
-    ∷ running 121 0 (zeroWords 511) 3
+    ∷ running (job 121 0) 0 (zeroWords 511) 3
     -- 5: "Run at 121"
-    ∷ running 121 0 (zeroWords 512) 5
+    ∷ running (job 121 0) 0 (zeroWords 512) 5
+    -- 5: more turns made than the turn number, from the first turn on
+    ∷ running (job 5 6) 1 (zeroWords 512) 5
+    ∷ running (job 0 1) 1 (zeroWords 512) 5
     -- accepted: "Run at 120", and "Allowance 0 is no error"
-    ∷ running 120 0 (zeroWords 512) 0
+    ∷ running (job 120 0) 0 (zeroWords 512) 0
+    -- accepted: as many made as the turn number
+    ∷ running (job 6 6) 0 (zeroWords 512) 0
     -- ---- Fetch: tests 3, 5, 6, 7, 8
     -- 3: "511 words"
-    ∷ fetching 121 (negsuc 0 ∷ zeroWords 510) (zeroBytes 2048) 3
+    ∷ fetching (job 121 0) (negsuc 0 ∷ zeroWords 510) (zeroBytes 2048) 3
     -- 5: "turn number above 120"
-    ∷ fetching 121 (negsuc 0 ∷ zeroWords 511) (zeroBytes 2048) 5
+    ∷ fetching (job 121 0) (negsuc 0 ∷ zeroWords 511) (zeroBytes 2048) 5
+    -- 5: more turns made than the turn number, under 120 and at it
+    ∷ fetching (job 5 6) (negsuc 0 ∷ zeroWords 511) (zeroBytes 2048) 5
+    ∷ fetching (job 120 121) (negsuc 0 ∷ zeroWords 511) (zeroBytes 2048) 5
     -- 6: "Fetch at 119"
-    ∷ fetching 119 (negsuc 0 ∷ zeroWords 511) (zeroBytes 2048) 6
+    ∷ fetching (job 119 0) (negsuc 0 ∷ zeroWords 511) (zeroBytes 2048) 6
     -- 7: "2,048 bytes"
-    ∷ fetching 120 (negsuc 0 ∷ zeroWords 511) (zeroBytes 2048) 7
+    ∷ fetching (job 120 0) (negsuc 0 ∷ zeroWords 511) (zeroBytes 2048) 7
     -- 8: "one of its first 15 diagonal words is negative", the first and the last of them
-    ∷ fetching 120 (negsuc 0 ∷ zeroWords 511) (zeroBytes 2049) 8
-    ∷ fetching 120 (zeroWords 462 ++ negsuc 0 ∷ zeroWords 49) (zeroBytes 2049) 8
+    ∷ fetching (job 120 0) (negsuc 0 ∷ zeroWords 511) (zeroBytes 2049) 8
+    ∷ fetching (job 120 0) (zeroWords 462 ++ negsuc 0 ∷ zeroWords 49) (zeroBytes 2049) 8
     -- 8: "a word of R under the diagonal is not 0", the first and the last of them
-    ∷ fetching 120 (zeroWords 32 ++ pos 1 ∷ zeroWords 479) (zeroBytes 2049) 8
-    ∷ fetching 120 (zeroWords 494 ++ pos 1 ∷ zeroWords 17) (zeroBytes 2049) 8
+    ∷ fetching (job 120 0) (zeroWords 32 ++ pos 1 ∷ zeroWords 479) (zeroBytes 2049) 8
+    ∷ fetching (job 120 0) (zeroWords 494 ++ pos 1 ∷ zeroWords 17) (zeroBytes 2049) 8
     -- accepted: R's word (0, 1) and its last diagonal word are negative
-    ∷ fetching 120 (pos 0 ∷ negsuc 0 ∷ zeroWords 493 ++ negsuc 0 ∷ zeroWords 16) (zeroBytes 2049) 0
+    ∷ fetching (job 120 0) (pos 0 ∷ negsuc 0 ∷ zeroWords 493 ++ negsuc 0 ∷ zeroWords 16) (zeroBytes 2049) 0
+    -- accepted: as many made as the turn number
+    ∷ fetching (job 120 120) (zeroWords 512) (zeroBytes 2049) 0
     -- ---- Read: tests 1, 2, 3, 8
     -- 1: "no byte"
     ∷ reading [] (zeroWords 511) 1
@@ -138,6 +154,6 @@ examples =
     ∷ []
 
 pub numbered : AllAnswer examples
-unfolding examples loadOf loadBy loadRefusal runOf runBy runMade runRefusal fetchOf fetchBy fetchRefusal readOf readBy readRefusal wholeOf wholeBy wholeDone wholeRefusal headerTest tabulate allBelow heardBelow antennaHeard partOf isFinished isFinishedAt R wordIn recordR recordWord
+unfolding examples jobTest loadOf loadBy loadRefusal runOf runBy runDone runRefusal fetchOf fetchBy fetchRefusal readOf readBy readRefusal wholeOf wholeBy wholeDone wholeRefusal headerTest tabulate allBelow heardBelow antennaHeard partOf isFinished isFinishedAt R wordIn recordR recordWord
 numbered =
-    (refl, (refl, (refl, (refl, (refl, (refl, (refl, (refl, (refl, (refl, (refl, (refl, (refl, (refl, (refl, (refl, (refl, (refl, (refl, (refl, (refl, (refl, (refl, (refl, (refl, (refl, (refl, (refl, (refl, (refl, (refl, (refl, (refl, (refl, (refl, (refl, (refl, (refl, (refl, tt)))))))))))))))))))))))))))))))))))))))
+    (refl, (refl, (refl, (refl, (refl, (refl, (refl, (refl, (refl, (refl, (refl, (refl, (refl, (refl, (refl, (refl, (refl, (refl, (refl, (refl, (refl, (refl, (refl, (refl, (refl, (refl, (refl, (refl, (refl, (refl, (refl, (refl, (refl, (refl, (refl, (refl, (refl, (refl, (refl, (refl, (refl, (refl, (refl, (refl, (refl, tt)))))))))))))))))))))))))))))))))))))))))))))

@@ -7,6 +7,7 @@ use Prim.Native.Nat.{ℕ}
 use lib.IntN.{ℤ, pos}
 use lib.ListN.{take, replicate}
 use Rattle.workspace.specs.Workspace.{workspaceWords}
+use Rattle.engine.specs.declared.job.Job.{Job}
 use Rattle.engine.specs.Load.{loadOf}
 use Rattle.engine.specs.Run.{runOf}
 use Rattle.engine.specs.Fetch.{fetchOf}
@@ -22,12 +23,12 @@ LoadAlike = (rec : List ℕ) (l m : List ℤ) → Alike l m → (loadOf rec l .r
 
 abbrev pub RunAlike : Type 0
 RunAlike =
-    (turn budget : ℕ) (l m : List ℤ) → Alike l m
-    → (runOf turn budget l .reply ≡ runOf turn budget m .reply) × Alike (runOf turn budget l .workspace) (runOf turn budget m .workspace)
+    (job : Job) (budget : ℕ) (l m : List ℤ) → Alike l m
+    → (runOf job budget l .reply ≡ runOf job budget m .reply) × Alike (runOf job budget l .workspace) (runOf job budget m .workspace)
 
 -- Fetch has the number and the buffer alone
 abbrev pub FetchAlike : Type 0
-FetchAlike = (turn : ℕ) (l m : List ℤ) (buffer : List ℕ) → Alike l m → fetchOf turn l buffer ≡ fetchOf turn m buffer
+FetchAlike = (job : Job) (l m : List ℤ) (buffer : List ℕ) → Alike l m → fetchOf job l buffer ≡ fetchOf job m buffer
 
 abbrev pub ReadAlike : Type 0
 ReadAlike = (rec : List ℕ) (l m : List ℤ) → Alike l m → (readOf rec l .reply ≡ readOf rec m .reply) × Alike (readOf rec l .workspace) (readOf rec m .workspace)

@@ -3,6 +3,7 @@
 pub mod modem;
 pub mod snapshots;
 
+use engine::job::Job;
 use engine::load::LoadReply;
 use engine::read::ReadReply;
 use engine::run::RunReply;
@@ -22,17 +23,17 @@ pub extern "C" fn hubqr_load(bytes: &[u8], area: &mut [i32]) -> LoadReply
 }
 
 #[no_mangle]
-pub extern "C" fn hubqr_run(turn: u32, allowance: u16, area: &mut [i32]) -> RunReply
-    ensures { λ r. ⌜ record { reply = r; workspace = now (area .exit) } ≡ runOf turn allowance (now (area .entry)) ⌝ }
+pub extern "C" fn hubqr_run(job: Job, allowance: u16, area: &mut [i32]) -> RunReply
+    ensures { λ r. ⌜ record { reply = r; workspace = now (area .exit) } ≡ runOf job allowance (now (area .entry)) ⌝ }
 {
-    engine::run::run(turn, allowance, area)
+    engine::run::run(job, allowance, area)
 }
 
 #[no_mangle]
-pub extern "C" fn hubqr_fetch(turn: u32, area: &[i32], buffer: &mut [u8]) -> u8
-    ensures { λ r. ⌜ record { number = r; buffer = now (buffer .exit) } ≡ fetchOf turn (now (area .entry)) (now (buffer .entry)) ⌝ }
+pub extern "C" fn hubqr_fetch(job: Job, area: &[i32], buffer: &mut [u8]) -> u8
+    ensures { λ r. ⌜ record { number = r; buffer = now (buffer .exit) } ≡ fetchOf job (now (area .entry)) (now (buffer .entry)) ⌝ }
 {
-    engine::fetch::fetch(turn, area, buffer)
+    engine::fetch::fetch(job, area, buffer)
 }
 
 #[no_mangle]
@@ -52,7 +53,7 @@ pub extern "C" fn hubqr_whole(bytes: &[u8], area: &mut [i32], buffer: &mut [u8])
 // The version of this archive, 10,000 times the major, 100 times the minor and the patch number.
 #[no_mangle]
 pub extern "C" fn hubqr_version() -> u32
-    ensures { λ r. ⌜ r ≡ 600 ⌝ }
+    ensures { λ r. ⌜ r ≡ 700 ⌝ }
 {
-    600
+    700
 }

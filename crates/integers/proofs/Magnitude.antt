@@ -1,14 +1,15 @@
 -- Ranges of signed numbers, by `mag`: `mag z` is n both for n and for -(n + 1), so `mag z < 2 ^ 63` says that z fits an `i64`.
 -- Assumes nothing.
-use Prim.Native.Nat.{ℕ, zero, suc, _+_, _*_, _/_, _^_, _≤_, _<_}
+use Prim.Native.Nat.{ℕ, zero, suc, _+_, _-_, _*_, _/_, _^_, _≤_, _<_}
 use native.Mathlib.Nat.{le-suc, mul-le-mul-right}
 use native.Mathlib.Omega.{arith}
-use mathlib.Core.Path.{_≡_, refl}
+use mathlib.Core.Path.{_≡_, refl, sym, _∙_}
 use mathlib.Core.Bool.{Bool, true, false, cond}
-use lib.Dec.{ltb, leb·zero}
-use lib.IntN.{ℤ, pos, negsuc, negℤ, subℕ, _+ℤ_, _-ℤ_, _*ℤ_}
+use borrow.Author.Tests.{ne-eqb}
+use lib.Dec.{ltb, eqb, leb·zero}
+use lib.IntN.{ℤ, pos, negsuc, natAbs, negℤ, subℕ, _+ℤ_, _-ℤ_, _*ℤ_}
 use lib.Signed.{mag, shrZ, leZ, nonNeg}
-use mir.Syntax.{Width}
+use mir.Syntax.{Width, w32}
 use mir.Val.{toZ, ofZ, hbits}
 use mir.Facts.{toZ-ofZ}
 
@@ -59,3 +60,8 @@ read-back w h = toZ-ofZ {w = w} (record { sfits = h })
 pub nonneg-test : (z : ℤ) → leZ (pos 0) z ≡ nonNeg z
 nonneg-test (pos n) = leb·zero n
 nonneg-test (negsuc n) = refl
+
+-- and its test for 0, which goes by the bits
+pub zero-bits : (z : ℤ) → mag z < 2147483648 → eqb (ofZ w32 z) 0 ≡ eqb (natAbs z) 0
+zero-bits (pos n) h = refl
+zero-bits (negsuc m) h = ne-eqb (4294967296 - suc m) 0 (λ e. omega arith) ∙ sym (ne-eqb (suc m) 0 (λ e. omega arith))

@@ -25,9 +25,9 @@ shortWorkspace = 3
 abbrev pub noneHeard : ℕ
 noneHeard = 4
 
--- turn number above 120
-abbrev pub noSuchTurn : ℕ
-noSuchTurn = 5
+-- turn number above 120, or more turns made than that (document 02, U5)
+abbrev pub noSuchJob : ℕ
+noSuchJob = 5
 
 -- turn number under 120
 abbrev pub unfinished : ℕ

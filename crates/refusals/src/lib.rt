@@ -11,7 +11,7 @@ pub const SHORT_WORKSPACE: u8 = 3;
 
 pub const NONE_HEARD: u8 = 4;
 
-pub const NO_SUCH_TURN: u8 = 5;
+pub const NO_SUCH_JOB: u8 = 5;
 
 pub const UNFINISHED: u8 = 6;
 

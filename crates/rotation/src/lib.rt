@@ -1,4 +1,5 @@
-// One rotation: what it counts. Its definition, by position and by column, stands in specs/; the crates `wide` and `narrow` make it.
+// One rotation: what it counts, and what comes of a turn. Their definitions stand in specs/; the crates `wide` and `narrow` make a rotation, and
+// `givens` a turn.
 ghost use mathlib.Core.Path.{_≡_};
 ghost use Rattle.rotation.specs.Saturations.{noSaturations, added, CountOf};
 
@@ -26,4 +27,11 @@ impl Saturations {
             q: self.q + other.q,
         }
     }
+}
+
+// What comes of a turn, or of several together, besides the words: how many were truly made, since a clear one is skipped, and what
+// they counted.
+pub struct Tally {
+    pub made: u32,
+    pub saturations: Saturations,
 }

@@ -14,6 +14,7 @@ use Rattle.result_record.proofs.Accepted.{record-passes}
 use Rattle.covariance.specs.declared.Sample.{Sample}
 use Rattle.workspace.specs.Workspace.{R, Q}
 use Rattle.workspace.proofs.Filled.{written-r}
+use Rattle.engine.specs.declared.job.Job.{Job}
 use Rattle.engine.specs.Fetch.{fetchRefusal, fetchOf}
 use Rattle.engine.proofs.Accepted.{fetch-accepted, read-accepted}
 use Rattle.engine_laws.specs.RoundTrip.{Words32}
@@ -53,20 +54,20 @@ zero-diagonal rec targets e = rw (number-is rec targets) (of-diagonal rec e)
 
 -- ---- what an accepted Fetch writes
 
-module _ (turn : ℕ) (l : List ℤ) (buffer : List ℕ) (targets : List Sample) (fits : Words32 l) (t : fetchRefusal turn l buffer ≡ 0) where
+module _ (job : Job) (l : List ℤ) (buffer : List ℕ) (targets : List Sample) (fits : Words32 l) (t : fetchRefusal job l buffer ≡ 0) where
   written-passes : recordRefusal (resultRecord (R l) (Q l)) ≡ 0
   written-passes =
-      let s = read-accepted (resultRecord (R l) (Q l)) l (written-accepted turn l buffer fits t l (fetch-accepted turn l buffer t .room)) in
+      let s = read-accepted (resultRecord (R l) (Q l)) l (written-accepted job l buffer fits t l (fetch-accepted job l buffer t .room)) in
       record-passes (resultRecord (R l) (Q l)) (record { header = s .header; finished = s .finished })
 
-  fetched-iff : (weightsOf (take 2049 (fetchOf turn l buffer .buffer)) targets .number ≡ 0) ↔ NoZero (R l)
+  fetched-iff : (weightsOf (take 2049 (fetchOf job l buffer .buffer)) targets .number ≡ 0) ↔ NoZero (R l)
   fetched-iff =
       let a = weighable-iff (resultRecord (R l) (Q l)) targets in
-      rw (written-is turn l buffer fits t)
+      rw (written-is job l buffer fits t)
       (λ e i h z. a .0 e .1 i h (written-r l fits i i h h ∙ z), λ f. a .1 (written-passes, λ i h z. f i h (sym (written-r l fits i i h h) ∙ z)))
 
-  fetched-zero : let number = weightsOf (take 2049 (fetchOf turn l buffer .buffer)) targets .number in (number ≡ 0) ⊎ (number ≡ 11)
-  fetched-zero = rw (written-is turn l buffer fits t) (zero-diagonal (resultRecord (R l) (Q l)) targets written-passes)
+  fetched-zero : let number = weightsOf (take 2049 (fetchOf job l buffer .buffer)) targets .number in (number ≡ 0) ⊎ (number ≡ 11)
+  fetched-zero = rw (written-is job l buffer fits t) (zero-diagonal (resultRecord (R l) (Q l)) targets written-passes)
 
 pub weighable : Weighable
 weighable = record {

@@ -10,6 +10,7 @@ use Rattle.integers.specs.Matrix.{Matrix}
 use Rattle.result_record.specs.ResultRecord.{recordR, recordRefusal}
 use Rattle.covariance.specs.declared.Sample.{Sample}
 use Rattle.workspace.specs.Workspace.{R}
+use Rattle.engine.specs.declared.job.Job.{Job}
 use Rattle.engine.specs.Fetch.{fetchRefusal, fetchOf}
 use Rattle.engine_laws.specs.RoundTrip.{Words32}
 use Rattle.weights.specs.Solution.{zeroFloat}
@@ -29,7 +30,7 @@ pub record Weighable : Type 0 where
   -- the weights of a refusal are +0.0
   pub nothing : (rec : List ℕ) (targets : List Sample) → (weightsOf rec targets .number ≡ 0 → ⊥) → (k : ℕ) → k < 8 → weightAt rec targets k ≡ weightOf (λ j. zeroFloat) k
   -- of what an accepted Fetch writes, exactly those results are accepted that have no 0 on R's diagonal, and the others are refused with 11
-  pub fetched-iff : (turn : ℕ) (l : List ℤ) (buffer : List ℕ) (targets : List Sample) → Words32 l → fetchRefusal turn l buffer ≡ 0
-      → (weightsOf (take 2049 (fetchOf turn l buffer .buffer)) targets .number ≡ 0) ↔ NoZero (R l)
-  pub fetched-zero : (turn : ℕ) (l : List ℤ) (buffer : List ℕ) (targets : List Sample) → Words32 l → fetchRefusal turn l buffer ≡ 0
-      → let number = weightsOf (take 2049 (fetchOf turn l buffer .buffer)) targets .number in (number ≡ 0) ⊎ (number ≡ 11)
+  pub fetched-iff : (job : Job) (l : List ℤ) (buffer : List ℕ) (targets : List Sample) → Words32 l → fetchRefusal job l buffer ≡ 0
+      → (weightsOf (take 2049 (fetchOf job l buffer .buffer)) targets .number ≡ 0) ↔ NoZero (R l)
+  pub fetched-zero : (job : Job) (l : List ℤ) (buffer : List ℕ) (targets : List Sample) → Words32 l → fetchRefusal job l buffer ≡ 0
+      → let number = weightsOf (take 2049 (fetchOf job l buffer .buffer)) targets .number in (number ≡ 0) ⊎ (number ≡ 11)

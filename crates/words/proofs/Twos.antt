@@ -1,13 +1,13 @@
 -- Two's complement by sums: the laws behind `signed16`, `from_bits`, `to_bits` and `to_bits16`. Assumes nothing.
-use mathlib.Core.Path.{_≡_, refl, sym, _∙_, subst}
+use mathlib.Core.Path.{_≡_, refl, subst}
 use Prim.Native.Nat.{ℕ, suc, _-_, _^_, _≤_, _<_}
 use native.Mathlib.Omega.{arith}
-use borrow.Author.Tests.{lt-ltb, le-ltb, ltb-true, ne-eqb}
+use borrow.Author.Tests.{lt-ltb, le-ltb, ltb-true}
 use native.Mathlib.Nat.{not-suc-le-zero, le-trans}
 use mathlib.Core.Bool.{true, false}
-use lib.Dec.{T, ltb, eqb, lit≤}
-use lib.IntN.{ℤ, pos, negsuc, natAbs, _+ℤ_}
-use lib.Signed.{mag, ltZ}
+use lib.Dec.{T, ltb, lit≤}
+use lib.IntN.{ℤ, pos, negsuc, _+ℤ_}
+use lib.Signed.{ltZ}
 use mir.Syntax.{Width, w8, w16, w32, w64, w128}
 use mir.Val.{sel, bits, hbits, ofZ, SFits}
 
@@ -31,8 +31,3 @@ lift w (negsuc m) f t = let h : suc m ≤ 2 ^ bits w = le-trans (f .sfits) (half
 pub plain : (w : Width) (z : ℤ) → ltZ z (pos 0) ≡ false → z ≡ pos (ofZ w z)
 plain w (pos n) t = refl
 plain w (negsuc m) t = absurd (subst T t tt)
-
--- a test for zero goes by the bits
-pub zero-bits : (z : ℤ) → mag z < 2147483648 → eqb (ofZ w32 z) 0 ≡ eqb (natAbs z) 0
-zero-bits (pos n) h = refl
-zero-bits (negsuc m) h = ne-eqb (4294967296 - suc m) 0 (λ e. omega arith) ∙ sym (ne-eqb (suc m) 0 (λ e. omega arith))

@@ -2,6 +2,6 @@
 pub mod Places
 pub mod Products
 pub mod GivensStep
-pub mod RotationsMade
+pub mod WordsAfter
 pub mod SameWords
 pub mod Filled

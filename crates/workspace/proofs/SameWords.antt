@@ -1,6 +1,6 @@
--- Rotations of the workspace read no word behind the 512: two workspaces with the same first 512 words have them afterwards too, and count the same.
+-- Turns of the workspace read no word behind the 512: two workspaces with the same first 512 words have them afterwards too, and count the same.
 -- Assumes nothing.
-use Prim.Native.Nat.{ℕ, zero, suc, _+_, _-_, _*_, _/_, _%_, _≤_, _<_}
+use Prim.Native.Nat.{ℕ, zero, suc, _+_, _-_, _*_, _≤_, _<_}
 use native.Mathlib.Decide.{decLt}
 use native.Mathlib.Omega.{arith}
 use mathlib.Core.Path.{_≡_, refl, sym, ap, ap₂, _∙_, subst}
@@ -8,17 +8,16 @@ use mathlib.Core.List.{List}
 use lib.IntN.{ℤ, pos}
 use lib.ListN.{length, getD, take, length-drop, List·getD-append}
 use lib.Seq.{length-take-le, ext-getD, getD-take, getD-drop}
-use Rattle.rotation.specs.Rotated.{rotated}
+use Rattle.rotation.specs.Turn.{turned}
 use Rattle.rotation.specs.Saturations.{added}
 use Rattle.rotation.specs.Locality.{Agree}
-use Rattle.rotation.proofs.Places.{rotated-position}
-use Rattle.rotation.proofs.Locality.{word-agrees, counts-read}
+use Rattle.rotation.proofs.Locality.{turned-agrees, counts-read, made-read}
 use Rattle.schedule.specs.declared.Rotation.{Rotation}
 use Rattle.schedule.specs.Schedule.{rotationAt}
 use Rattle.schedule.proofs.Clear.{rotation-shape}
 use Rattle.workspace.specs.Workspace.{wordIn, R, Q}
-use Rattle.workspace.specs.Rotations.{rowsFrom, workspaceRotated, workspaceSaturations, rotationsMade, saturationsCounted}
-use Rattle.workspace.proofs.RotationsMade.{above-length, from-part, made-length}
+use Rattle.workspace.specs.Rotations.{rowsFrom, workspaceTurned, workspaceSaturations, workspaceMade, wordsAfter, saturationsCounted, turnsMade}
+use Rattle.workspace.proofs.WordsAfter.{above-length, from-part, words-length}
 
 -- ---- the same first 512 words, one by one
 abbrev pub SameWords : List ℤ → List ℤ → Type 0
@@ -42,14 +41,14 @@ module _ (l m : List ℤ) where
     unfolding Q wordIn
     q-same i j p q = same (j * 32 + (16 + i)) (omega arith)
 
--- ---- one rotation
+-- ---- one turn
 
 module _ (t : Rotation) (ordered : t .column ≤ t .upper) (apart : t .upper < t .lower) (inside : t .lower < 16) where
   -- a word above the upper row
-  above : (l : List ℤ) → 512 ≤ length l → (k : ℕ) → k < t .upper * 32 → getD (workspaceRotated t l) k (pos 0) ≡ getD l k (pos 0)
-  unfolding workspaceRotated
+  above : (l : List ℤ) → 512 ≤ length l → (k : ℕ) → k < t .upper * 32 → getD (workspaceTurned t l) k (pos 0) ≡ getD l k (pos 0)
+  unfolding workspaceTurned
   above l room k h =
-      List·getD-append (take (t .upper * 32) l) (rotated (t .column) (t .lower - t .upper) (rowsFrom t l)) (pos 0) k (omega (arith, above-length t l ordered apart inside room))
+      List·getD-append (take (t .upper * 32) l) (turned (t .column) (t .lower - t .upper) (rowsFrom t l)) (pos 0) k (omega (arith, above-length t l ordered apart inside room))
       ∙ getD-take (t .upper * 32) l k (pos 0) h
 
   module _ (l m : List ℤ) (room : 512 ≤ length l) (space : 512 ≤ length m) (same : SameWords l m) where
@@ -60,37 +59,39 @@ module _ (t : Rotation) (ordered : t .column ≤ t .upper) (apart : t .upper < t
     agree j p q = (part-same (0 * 32 + j) (omega arith), part-same ((t .lower - t .upper) * 32 + j) (omega arith))
 
     -- a word from the upper row on
-    from-same : (i : ℕ) → t .upper * 32 + i < 512 → getD (workspaceRotated t l) (t .upper * 32 + i) (pos 0) ≡ getD (workspaceRotated t m) (t .upper * 32 + i) (pos 0)
+    from-same : (i : ℕ) → t .upper * 32 + i < 512 → getD (workspaceTurned t l) (t .upper * 32 + i) (pos 0) ≡ getD (workspaceTurned t m) (t .upper * 32 + i) (pos 0)
     from-same i h =
         from-part t l ordered apart inside room i
-        ∙ rotated-position (t .column) (t .lower - t .upper) (rowsFrom t l) i (rw length-drop (omega arith))
-        ∙ word-agrees (t .column) (t .lower - t .upper) (rowsFrom t l) (rowsFrom t m) agree (i / 32) (i % 32) (omega arith) (part-same (i / 32 * 32 + i % 32) (omega arith))
-        ∙ sym (rotated-position (t .column) (t .lower - t .upper) (rowsFrom t m) i (rw length-drop (omega arith)))
+        ∙ turned-agrees (t .column) (t .lower - t .upper) (rowsFrom t l) (rowsFrom t m) (omega arith) agree i (rw length-drop (omega arith)) (rw length-drop (omega arith)) (part-same i h)
         ∙ sym (from-part t m ordered apart inside space i)
 
-    workspace-same : SameWords (workspaceRotated t l) (workspaceRotated t m)
+    workspace-same : SameWords (workspaceTurned t l) (workspaceTurned t m)
     workspace-same k h = pick (decLt k (t .upper * 32))
       where
-        pick : Dec (k < t .upper * 32) → getD (workspaceRotated t l) k (pos 0) ≡ getD (workspaceRotated t m) k (pos 0)
+        pick : Dec (k < t .upper * 32) → getD (workspaceTurned t l) k (pos 0) ≡ getD (workspaceTurned t m) k (pos 0)
         pick (yes p) = above l room k p ∙ same k h ∙ sym (above m space k p)
         pick (no p) =
             let e : t .upper * 32 + (k - t .upper * 32) ≡ k = omega arith in
-            subst (λ (n : ℕ). getD (workspaceRotated t l) n (pos 0) ≡ getD (workspaceRotated t m) n (pos 0)) e (from-same (k - t .upper * 32) (omega arith))
+            subst (λ (n : ℕ). getD (workspaceTurned t l) n (pos 0) ≡ getD (workspaceTurned t m) n (pos 0)) e (from-same (k - t .upper * 32) (omega arith))
 
     workspace-saturations-same : workspaceSaturations t l ≡ workspaceSaturations t m
     unfolding workspaceSaturations
     workspace-saturations-same = counts-read (t .column) (t .lower - t .upper) (rowsFrom t l) (rowsFrom t m) agree
 
--- ---- rotations of the schedule
+    workspace-made-same : workspaceMade t l ≡ workspaceMade t m
+    unfolding workspaceMade
+    workspace-made-same = made-read (t .column) (t .lower - t .upper) (rowsFrom t l) (rowsFrom t m) (omega arith) agree
+
+-- ---- turns of the schedule
 
 module _ (l m : List ℤ) (room : 512 ≤ length l) (space : 512 ≤ length m) (same : SameWords l m) where
-  pub made-same : (n k : ℕ) → n + k ≤ 120 → SameWords (rotationsMade n k l) (rotationsMade n k m)
-  unfolding rotationsMade
-  made-same n zero h = same
-  made-same n (suc k) h =
+  pub words-same : (n k : ℕ) → n + k ≤ 120 → SameWords (wordsAfter n k l) (wordsAfter n k m)
+  unfolding wordsAfter
+  words-same n zero h = same
+  words-same n (suc k) h =
       let s = rotation-shape (n + k) (omega arith) in
-      workspace-same (rotationAt (n + k)) (s .0) (s .1) (s .2) (rotationsMade n k l) (rotationsMade n k m)
-      (omega (arith, made-length n k l (omega arith) room)) (omega (arith, made-length n k m (omega arith) space)) (made-same n k (omega arith))
+      workspace-same (rotationAt (n + k)) (s .0) (s .1) (s .2) (wordsAfter n k l) (wordsAfter n k m)
+      (omega (arith, words-length n k l (omega arith) room)) (omega (arith, words-length n k m (omega arith) space)) (words-same n k (omega arith))
 
   pub saturations-same : (n k : ℕ) → n + k ≤ 120 → saturationsCounted n k l ≡ saturationsCounted n k m
   unfolding saturationsCounted
@@ -98,9 +99,18 @@ module _ (l m : List ℤ) (room : 512 ≤ length l) (space : 512 ≤ length m) (
   saturations-same n (suc k) h =
       let s = rotation-shape (n + k) (omega arith) in
       ap₂ added (saturations-same n k (omega arith))
-      (workspace-saturations-same (rotationAt (n + k)) (s .0) (s .1) (s .2) (rotationsMade n k l) (rotationsMade n k m)
-      (omega (arith, made-length n k l (omega arith) room)) (omega (arith, made-length n k m (omega arith) space)) (made-same n k (omega arith)))
+      (workspace-saturations-same (rotationAt (n + k)) (s .0) (s .1) (s .2) (wordsAfter n k l) (wordsAfter n k m)
+      (omega (arith, words-length n k l (omega arith) room)) (omega (arith, words-length n k m (omega arith) space)) (words-same n k (omega arith)))
 
-  pub made-take : (n k : ℕ) → n + k ≤ 120 → take 512 (rotationsMade n k l) ≡ take 512 (rotationsMade n k m)
-  made-take n k h =
-      same-take (rotationsMade n k l) (rotationsMade n k m) (omega (arith, made-length n k l h room)) (omega (arith, made-length n k m h space)) (made-same n k h)
+  pub turns-made-same : (n k : ℕ) → n + k ≤ 120 → turnsMade n k l ≡ turnsMade n k m
+  unfolding turnsMade
+  turns-made-same n zero h = refl
+  turns-made-same n (suc k) h =
+      let s = rotation-shape (n + k) (omega arith) in
+      ap₂ _+_ (turns-made-same n k (omega arith))
+      (workspace-made-same (rotationAt (n + k)) (s .0) (s .1) (s .2) (wordsAfter n k l) (wordsAfter n k m)
+      (omega (arith, words-length n k l (omega arith) room)) (omega (arith, words-length n k m (omega arith) space)) (words-same n k (omega arith)))
+
+  pub words-take : (n k : ℕ) → n + k ≤ 120 → take 512 (wordsAfter n k l) ≡ take 512 (wordsAfter n k m)
+  words-take n k h =
+      same-take (wordsAfter n k l) (wordsAfter n k m) (omega (arith, words-length n k l h room)) (omega (arith, words-length n k m h space)) (words-same n k h)

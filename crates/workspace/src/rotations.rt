@@ -1,5 +1,6 @@
-// Rotations of the workspace, in the order of the schedule.
+// Turns of the workspace, in the order of the schedule.
 use rotation::Saturations;
+use rotation::Tally;
 use schedule::Rotation;
 use schedule::Table;
 ghost use mathlib.Core.Path.{_≡_};
@@ -7,13 +8,14 @@ ghost use Prim.Native.Nat.{_<_, _≤_, _+_};
 ghost use lib.ListN.{length};
 ghost use Rattle.schedule.specs.Schedule.{rotationCount, schedule, flat, rotationAt};
 ghost use Rattle.workspace.specs.Workspace.{workspaceWords};
-ghost use Rattle.workspace.specs.Rotations.{workspaceRotated, workspaceSaturations, rotationsMade, saturationsCounted};
+ghost use Rattle.workspace.specs.Rotations.{workspaceTurned, workspaceSaturations, workspaceMade, wordsAfter, saturationsCounted, turnsMade};
 
-// A rotation of the workspace: the part that begins at its upper row is rotated. Answers what it counts.
-fn rotate_workspace(t: Rotation, workspace: &mut [i32]) -> Saturations
+// A turn of the workspace: of the part that begins at its upper row. Answers what it counts, and whether it is made.
+fn turn_workspace(t: Rotation, workspace: &mut [i32]) -> Tally
     requires { ⌜ (t .column < 16) × (t .upper < t .lower) × (t .lower < 16) × (workspaceWords ≤ length (now workspace)) ⌝ }
-    ensures words { λ r. ⌜ now (workspace .exit) ≡ workspaceRotated t (now (workspace .entry)) ⌝ }
-    ensures saturations { λ s. ⌜ s ≡ workspaceSaturations t (now (workspace .entry)) ⌝ }
+    ensures words { λ r. ⌜ now (workspace .exit) ≡ workspaceTurned t (now (workspace .entry)) ⌝ }
+    ensures saturations { λ r. ⌜ r .saturations ≡ workspaceSaturations t (now (workspace .entry)) ⌝ }
+    ensures made { λ r. ⌜ r .made ≡ workspaceMade t (now (workspace .entry)) ⌝ }
 {
     let column = t.column;
     let start = t.upper * 32;
@@ -21,27 +23,31 @@ fn rotate_workspace(t: Rotation, workspace: &mut [i32]) -> Saturations
     givens::rotate(&mut workspace[start..], column, gap)
 }
 
-// Rotation number n of the workspace, by the schedule's table. Answers what it counts.
-fn make_rotation(table: &Table, n: usize, workspace: &mut [i32]) -> Saturations
+// Turn number n of the workspace, by the schedule's table. Answers what it counts, and whether it is made.
+fn take_turn(table: &Table, n: usize, workspace: &mut [i32]) -> Tally
     requires { ⌜ (now table ≡ flat schedule) × (n < rotationCount) × (workspaceWords ≤ length (now workspace)) ⌝ }
-    ensures words { λ r. ⌜ now (workspace .exit) ≡ workspaceRotated (rotationAt n) (now (workspace .entry)) ⌝ }
-    ensures saturations { λ s. ⌜ s ≡ workspaceSaturations (rotationAt n) (now (workspace .entry)) ⌝ }
+    ensures words { λ r. ⌜ now (workspace .exit) ≡ workspaceTurned (rotationAt n) (now (workspace .entry)) ⌝ }
+    ensures saturations { λ r. ⌜ r .saturations ≡ workspaceSaturations (rotationAt n) (now (workspace .entry)) ⌝ }
+    ensures made { λ r. ⌜ r .made ≡ workspaceMade (rotationAt n) (now (workspace .entry)) ⌝ }
 {
     let t = schedule::rotation_at(table, n);
-    rotate_workspace(t, workspace)
+    turn_workspace(t, workspace)
 }
 
-// `count` rotations of the workspace from rotation number n on. Answers what they count.
-pub fn make_rotations(n: usize, count: usize, workspace: &mut [i32]) -> Saturations
+// `count` turns of the workspace from turn number n on. Answers what they count, and how many of them are made.
+pub fn take_turns(n: usize, count: usize, workspace: &mut [i32]) -> Tally
     requires { ⌜ (n + count ≤ rotationCount) × (workspaceWords ≤ length (now workspace)) ⌝ }
-    ensures words { λ r. ⌜ now (workspace .exit) ≡ rotationsMade n count (now (workspace .entry)) ⌝ }
-    ensures saturations { λ s. ⌜ s ≡ saturationsCounted n count (now (workspace .entry)) ⌝ }
+    ensures words { λ r. ⌜ now (workspace .exit) ≡ wordsAfter n count (now (workspace .entry)) ⌝ }
+    ensures saturations { λ r. ⌜ r .saturations ≡ saturationsCounted n count (now (workspace .entry)) ⌝ }
+    ensures made { λ r. ⌜ r .made ≡ turnsMade n count (now (workspace .entry)) ⌝ }
 {
     let table = schedule::table();
+    let mut made: u32 = 0;
     let mut saturations = Saturations::none();
     for k in 0..count {
-        let more = make_rotation(&table, n + k, workspace);
-        saturations = saturations.plus(more);
+        let turn = take_turn(&table, n + k, workspace);
+        made += turn.made;
+        saturations = saturations.plus(turn.saturations);
     }
-    saturations
+    Tally { made, saturations }
 }

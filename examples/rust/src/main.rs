@@ -1,4 +1,6 @@
 //! Factors a matrix record in instalments of 7 rotations, with other work between them, and prints R.
+//! Each instalment says how far the job is, and how many of the rotations were truly made: those that
+//! have nothing to clear are skipped.
 //!
 //! ```text
 //! cargo run -p instalments [RECORD]
@@ -12,7 +14,7 @@ use std::io::{self, ErrorKind, Read, Write};
 use std::path::Path;
 use std::process::ExitCode;
 
-use hubqr::{Clamps, Refusal, AREA_WORDS, MATRIX_RECORD_BYTES, RESULT_RECORD_BYTES, TURNS};
+use hubqr::{Clamps, Job, Refusal, AREA_WORDS, MATRIX_RECORD_BYTES, RESULT_RECORD_BYTES, TURNS};
 
 const SAMPLE: &str = "examples/records/hermitian.bin";
 const INSTALMENT: u16 = 7;
@@ -56,9 +58,9 @@ fn factor(path: &Path, output: &mut impl Write) -> Result<(), Failure> {
     let mut area = [0; AREA_WORDS];
     let loaded = hubqr::load(&record, &mut area)?;
     print_heard(loaded.heard, output).map_err(Failure::Output)?;
-    let turn = work(loaded.turn, &mut area, output)?;
+    let job = work(loaded.job, &mut area, output)?;
     let mut result = [0; RESULT_RECORD_BYTES];
-    hubqr::fetch(turn, &area, &mut result)?;
+    hubqr::fetch(job, &area, &mut result)?;
     print_result(&result, &area, output).map_err(Failure::Output)
 }
 
@@ -70,23 +72,23 @@ fn read_record(path: &Path) -> io::Result<Vec<u8>> {
     Ok(record)
 }
 
-/// Makes all turns in instalments and answers the turn number at the end.
-fn work(mut turn: u32, area: &mut [i32], output: &mut impl Write) -> Result<u32, Failure> {
+/// Does all turns in instalments and answers the job at the end.
+fn work(mut job: Job, area: &mut [i32], output: &mut impl Write) -> Result<Job, Failure> {
     let mut rounds = 0;
-    while turn < TURNS {
-        let progress = hubqr::run(turn, INSTALMENT, area)?;
-        turn = progress.turn;
+    while !job.is_finished() {
+        let progress = hubqr::run(job, INSTALMENT, area)?;
+        job = progress.job;
         other_work(&mut rounds);
-        let Clamps { r, q } = progress.clamps;
+        let (Job { turn, made }, Clamps { r, q }) = (job, progress.clamps);
         writeln!(
             output,
-            "turn {turn:3} of {TURNS}, count {}, clamps {r} in R, {q} in Q, \
+            "turn {turn:3} of {TURNS}, made {made:3}, count {}, clamps {r} in R, {q} in Q, \
              rounds of other work {rounds}",
             progress.count
         )
         .map_err(Failure::Output)?;
     }
-    Ok(turn)
+    Ok(job)
 }
 
 /// Stands for what a hub does between instalments: listening, answering, switching.

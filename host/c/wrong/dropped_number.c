@@ -3,10 +3,10 @@
 
 uint8_t number;
 
-void finish(uint32_t turn, const int32_t *area, uint8_t *buffer)
+void finish(struct hubqr_job job, const int32_t *area, uint8_t *buffer)
 {
 #ifdef RIGHT
     number =
 #endif
-        hubqr_fetch(turn, area, HUBQR_AREA_WORDS, buffer, HUBQR_RESULT_RECORD_BYTES);
+        hubqr_fetch(job, area, HUBQR_AREA_WORDS, buffer, HUBQR_RESULT_RECORD_BYTES);
 }

@@ -9,7 +9,7 @@
 
 static int32_t area[WORDS];
 
-uint32_t work(uint32_t turn)
+struct hubqr_job work(struct hubqr_job job)
 {
-    return hubqr_run(turn, 7, area, HUBQR_AREA_WORDS).turn;
+    return hubqr_run(job, 7, area, HUBQR_AREA_WORDS).job;
 }

@@ -9,7 +9,7 @@
 
 static uint8_t buffer[BYTES];
 
-uint8_t finish(uint32_t turn, const int32_t *area)
+uint8_t finish(struct hubqr_job job, const int32_t *area)
 {
-    return hubqr_fetch(turn, area, HUBQR_AREA_WORDS, buffer, HUBQR_RESULT_RECORD_BYTES);
+    return hubqr_fetch(job, area, HUBQR_AREA_WORDS, buffer, HUBQR_RESULT_RECORD_BYTES);
 }

@@ -4,12 +4,15 @@
 uint32_t work(const uint8_t *record)
 {
     int32_t area[HUBQR_AREA_WORDS];
+    struct hubqr_job job = {0, 0};
 #ifdef RIGHT
-    if (hubqr_load(record, HUBQR_MATRIX_RECORD_BYTES, area, HUBQR_AREA_WORDS).number != HUBQR_ACCEPTED) {
+    struct hubqr_load_reply loaded = hubqr_load(record, HUBQR_MATRIX_RECORD_BYTES, area, HUBQR_AREA_WORDS);
+    if (loaded.number != HUBQR_ACCEPTED) {
         return 0;
     }
+    job = loaded.job;
 #else
     (void)record;
 #endif
-    return hubqr_run(0, 7, area, HUBQR_AREA_WORDS).clamps_r;
+    return hubqr_run(job, 7, area, HUBQR_AREA_WORDS).clamps_r;
 }

@@ -3,22 +3,37 @@
 //! Each `unsafe` block rests on the same facts: a slice's pointer and length describe memory that may
 //! be read, or written where it is `&mut`; Rust's borrows do not overlap; and the archive touches
 //! nothing else and keeps no pointer.
-use crate::ffi;
+use crate::ffi::{self, Job};
 use crate::refusal::Refusal;
+use crate::TURNS;
+
+impl Job {
+    /// Whether all 120 turns are done, so that R and Q are finished.
+    ///
+    /// ```
+    /// use hubqr::Job;
+    ///
+    /// assert!(!Job { turn: 119, made: 119 }.is_finished());
+    /// assert!(Job { turn: 120, made: 0 }.is_finished());
+    /// ```
+    pub const fn is_finished(self) -> bool {
+        self.turn == TURNS
+    }
+}
 
 /// What an accepted [`load`] answers.
 #[derive(Clone, Copy, Debug, PartialEq, Eq)]
 #[non_exhaustive]
 pub struct Loaded {
-    /// The turn number to hand to the next call: 0.
-    pub turn: u32,
+    /// The job to hand to the next call, with both its numbers 0.
+    pub job: Job,
     /// Bit k is set when antenna k was heard: when the real part of element (k, k) of the complex
     /// matrix is above [`HEARD_ABOVE`](crate::HEARD_ABOVE). It is never 0.
     pub heard: u8,
 }
 
 /// How many words were cut to the 32-bit range, by side. Both are 0 for an area that was loaded and
-/// worked with the turn numbers that were answered.
+/// worked with the jobs that were answered.
 #[derive(Clone, Copy, Debug, PartialEq, Eq)]
 pub struct Clamps {
     /// Those of columns 0 to 15, which hold R.
@@ -31,9 +46,9 @@ pub struct Clamps {
 #[derive(Clone, Copy, Debug, PartialEq, Eq)]
 #[non_exhaustive]
 pub struct Progress {
-    /// The turn number to hand to the next call.
-    pub turn: u32,
-    /// The turns made in this call.
+    /// The job to hand to the next call.
+    pub job: Job,
+    /// The turns that this call went on by, the skipped ones included.
     pub count: u32,
     /// The clamps counted in this call.
     pub clamps: Clamps,
@@ -43,8 +58,9 @@ pub struct Progress {
 #[derive(Clone, Copy, Debug, PartialEq, Eq)]
 #[non_exhaustive]
 pub struct Restored {
-    /// The turn number to hand to the next call: 120.
-    pub turn: u32,
+    /// The job to hand to the next call: turn number 120 and 0 made, since a result record does not
+    /// tell what it cost.
+    pub job: Job,
 }
 
 /// What an accepted [`whole`] answers.
@@ -72,7 +88,8 @@ pub struct Factored {
 ///
 /// record[2] = 17;
 /// let loaded = hubqr::load(&record, &mut area)?;
-/// assert_eq!((loaded.turn, loaded.heard), (0, 1));
+/// assert_eq!(loaded.job, hubqr::Job { turn: 0, made: 0 });
+/// assert_eq!(loaded.heard, 1);
 /// assert_eq!(area[0], 17 * 8192);
 /// # Ok::<(), hubqr::Refusal>(())
 /// ```
@@ -82,33 +99,50 @@ pub fn load(record: &[u8], area: &mut [i32]) -> Result<Loaded, Refusal> {
         unsafe { ffi::hubqr_load(record.as_ptr(), record.len(), area.as_mut_ptr(), area.len()) };
     accepted(reply.number)?;
     Ok(Loaded {
-        turn: reply.turn,
+        job: reply.job,
         heard: reply.heard,
     })
 }
 
-/// Makes the smaller of `allowance` and the turns that remain, from turn number `turn` on. An
-/// allowance of 0 and a turn number of 120 are no errors.
+/// Goes on by the smaller of `allowance` and the turns that remain, from turn number `job.turn` on.
+/// It makes those that are not clear and skips the others: the turn number grows by the count, which
+/// includes the skipped turns, and `made` by the turns made. An allowance of 0 and a turn number of
+/// 120 are no errors.
 ///
-/// Refuses, in this order, with [`Refusal::AreaTooShort`], [`Refusal::NoSuchTurn`].
+/// Refuses, in this order, with [`Refusal::AreaTooShort`], [`Refusal::NoSuchJob`].
 ///
 /// ```
 /// # let record = [1; hubqr::MATRIX_RECORD_BYTES];
 /// # let mut area = [0; hubqr::AREA_WORDS];
-/// let turn = hubqr::load(&record, &mut area)?.turn;
-/// let progress = hubqr::run(turn, 100, &mut area)?;
-/// assert_eq!((progress.turn, progress.count), (100, 100));
-/// let progress = hubqr::run(progress.turn, 100, &mut area)?;
-/// assert_eq!((progress.turn, progress.count), (120, 20));
+/// let job = hubqr::load(&record, &mut area)?.job;
+/// let progress = hubqr::run(job, 100, &mut area)?;
+/// assert_eq!((progress.job.turn, progress.count), (100, 100));
+/// let progress = hubqr::run(progress.job, 100, &mut area)?;
+/// assert_eq!((progress.job.turn, progress.count), (120, 20));
 /// assert_eq!(progress.clamps, hubqr::Clamps { r: 0, q: 0 });
 /// # Ok::<(), hubqr::Refusal>(())
 /// ```
-pub fn run(turn: u32, allowance: u16, area: &mut [i32]) -> Result<Progress, Refusal> {
+///
+/// A diagonal of positive numbers has nothing to clear, so that its 120 turns cost nothing:
+///
+/// ```
+/// let mut record = [0; hubqr::MATRIX_RECORD_BYTES];
+/// record[0] = hubqr::KIND_MATRIX;
+/// for k in 0..hubqr::ANTENNAS {
+///     record[1 + 36 * k] = 0x40; // element (k, k) is 16384, one half
+/// }
+/// let mut area = [0; hubqr::AREA_WORDS];
+/// let job = hubqr::load(&record, &mut area)?.job;
+/// let job = hubqr::run(job, 120, &mut area)?.job;
+/// assert_eq!(job, hubqr::Job { turn: 120, made: 0 });
+/// # Ok::<(), hubqr::Refusal>(())
+/// ```
+pub fn run(job: Job, allowance: u16, area: &mut [i32]) -> Result<Progress, Refusal> {
     // SAFETY: as said at the top of this file.
-    let reply = unsafe { ffi::hubqr_run(turn, allowance, area.as_mut_ptr(), area.len()) };
+    let reply = unsafe { ffi::hubqr_run(job, allowance, area.as_mut_ptr(), area.len()) };
     accepted(reply.number)?;
     Ok(Progress {
-        turn: reply.turn,
+        job: reply.job,
         count: reply.count,
         clamps: Clamps {
             r: reply.clamps_r,
@@ -119,28 +153,28 @@ pub fn run(turn: u32, allowance: u16, area: &mut [i32]) -> Result<Progress, Refu
 
 /// Writes the result record into the first 2,049 bytes of the buffer.
 ///
-/// Refuses, in this order, with [`Refusal::AreaTooShort`], [`Refusal::NoSuchTurn`],
+/// Refuses, in this order, with [`Refusal::AreaTooShort`], [`Refusal::NoSuchJob`],
 /// [`Refusal::Unfinished`], [`Refusal::BufferTooShort`], [`Refusal::NotTriangular`]. The last never
-/// comes for an area that was loaded and worked with the turn numbers that were answered.
+/// comes for an area that was loaded and worked with the jobs that were answered.
 ///
 /// ```
 /// # let record = [1; hubqr::MATRIX_RECORD_BYTES];
 /// # let mut area = [0; hubqr::AREA_WORDS];
 /// # let mut result = [0; hubqr::RESULT_RECORD_BYTES];
-/// let turn = hubqr::load(&record, &mut area)?.turn;
-/// let early = hubqr::fetch(turn, &area, &mut result);
+/// let job = hubqr::load(&record, &mut area)?.job;
+/// let early = hubqr::fetch(job, &area, &mut result);
 /// assert_eq!(early, Err(hubqr::Refusal::Unfinished));
 ///
-/// let turn = hubqr::run(turn, 120, &mut area)?.turn;
-/// hubqr::fetch(turn, &area, &mut result)?;
+/// let job = hubqr::run(job, 120, &mut area)?.job;
+/// hubqr::fetch(job, &area, &mut result)?;
 /// assert_eq!(result[0], hubqr::KIND_RESULT);
 /// # Ok::<(), hubqr::Refusal>(())
 /// ```
-pub fn fetch(turn: u32, area: &[i32], buffer: &mut [u8]) -> Result<(), Refusal> {
+pub fn fetch(job: Job, area: &[i32], buffer: &mut [u8]) -> Result<(), Refusal> {
     // SAFETY: as said at the top of this file.
     let number = unsafe {
         ffi::hubqr_fetch(
-            turn,
+            job,
             area.as_ptr(),
             area.len(),
             buffer.as_mut_ptr(),
@@ -162,7 +196,8 @@ pub fn fetch(turn: u32, area: &[i32], buffer: &mut [u8]) -> Result<(), Refusal> 
 /// # let mut result = [0; hubqr::RESULT_RECORD_BYTES];
 /// # hubqr::whole(&matrix, &mut area, &mut result)?;
 /// let mut other = [0; hubqr::AREA_WORDS];
-/// assert_eq!(hubqr::read(&result, &mut other)?.turn, hubqr::TURNS);
+/// let restored = hubqr::read(&result, &mut other)?;
+/// assert_eq!(restored.job, hubqr::Job { turn: 120, made: 0 });
 /// assert_eq!(other, area);
 /// # Ok::<(), hubqr::Refusal>(())
 /// ```
@@ -171,7 +206,7 @@ pub fn read(record: &[u8], area: &mut [i32]) -> Result<Restored, Refusal> {
     let reply =
         unsafe { ffi::hubqr_read(record.as_ptr(), record.len(), area.as_mut_ptr(), area.len()) };
     accepted(reply.number)?;
-    Ok(Restored { turn: reply.turn })
+    Ok(Restored { job: reply.job })
 }
 
 /// Does [`load`], all turns and [`fetch`] in one call. R and Q are left in the area as well.

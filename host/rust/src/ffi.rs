@@ -6,6 +6,17 @@
 //! call may not overlap. In every reply `number` is 0 for an accepted call, and the refusal's number
 //! otherwise.
 
+/// How far the work on an area is. The caller keeps it beside the area and hands it to the next call.
+#[repr(C)]
+#[derive(Clone, Copy, Debug, PartialEq, Eq)]
+pub struct Job {
+    /// The turn number: how many of the 120 turns are done, the skipped ones included.
+    pub turn: u32,
+    /// How many turns were truly made since Load, which is what the work really cost. It is at most
+    /// 120, for any matrix.
+    pub made: u32,
+}
+
 /// What Load answers.
 #[repr(C)]
 #[derive(Clone, Copy, Debug, PartialEq, Eq)]
@@ -14,8 +25,8 @@ pub struct LoadReply {
     pub number: u8,
     /// The heard byte.
     pub heard: u8,
-    /// The turn number to hand to the next call: 0.
-    pub turn: u32,
+    /// The job to hand to the next call: (0, 0).
+    pub job: Job,
 }
 
 /// What Run answers.
@@ -24,9 +35,9 @@ pub struct LoadReply {
 pub struct RunReply {
     /// 0, or the refusal's number.
     pub number: u8,
-    /// The turn number to hand to the next call; of a refused call, the one that it was handed.
-    pub turn: u32,
-    /// The turns made in this call.
+    /// The job to hand to the next call; of a refused call, the one that it was handed.
+    pub job: Job,
+    /// The turns that this call went on by, the skipped ones included.
     pub count: u32,
     /// The clamps counted in this call in columns 0 to 15, which hold R.
     pub clamps_r: u32,
@@ -40,8 +51,8 @@ pub struct RunReply {
 pub struct ReadReply {
     /// 0, or the refusal's number.
     pub number: u8,
-    /// The turn number to hand to the next call: 120.
-    pub turn: u32,
+    /// The job to hand to the next call: (120, 0); of a refused call, (0, 0).
+    pub job: Job,
 }
 
 /// What Whole answers.
@@ -128,12 +139,12 @@ extern "C" {
         area_len: usize,
     ) -> LoadReply;
 
-    /// Makes at most `allowance` of the turns that remain.
-    pub fn hubqr_run(turn: u32, allowance: u16, area: *mut i32, area_len: usize) -> RunReply;
+    /// Goes on by at most `allowance` of the turns that remain.
+    pub fn hubqr_run(job: Job, allowance: u16, area: *mut i32, area_len: usize) -> RunReply;
 
     /// Writes the result record of a finished area, and answers the number alone.
     pub fn hubqr_fetch(
-        turn: u32,
+        job: Job,
         area: *const i32,
         area_len: usize,
         buffer: *mut u8,

@@ -12,13 +12,21 @@
 //! matrix in which none was heard is refused with [`Refusal::NoneHeard`], whatever else it holds.
 //!
 //! The **area** has 512 words of 32 bits, 16 rows of 32 columns, in which the matrix is worked as a
-//! real one of 16 by 16. Once all 120 turns (rotations) are made, word (i, j) of R is
+//! real one of 16 by 16. Once all 120 turns (rotations) are done, word (i, j) of R is
 //! `area[32 * i + j]` with [`R_ONE`] for one, and word (i, j) of Q is `area[32 * j + 16 + i]` with
 //! [`Q_ONE`] for one. R is upper triangular, its first fifteen diagonal words are not negative, and
 //! Q times R is 2^43 times the 16-bit input, within 2^44.
 //!
-//! The **turn number** says how many turns have been made. The caller keeps it beside the area and
-//! hands it to the next call; a number that does not belong to the area is not noticed.
+//! A **turn** makes the lower leading word of two rows 0. Where that word is 0 already and the upper
+//! leading word is 0 or more, the turn is clear: it is skipped, and leaves both rows as they are.
+//!
+//! The **job** says how far the work on an area is: its turn number, how many of the 120 turns are
+//! done, the skipped ones included, and how many turns were truly made since [`load`]. The latter is
+//! what the work really cost: at most 120, for any matrix, and fewer where turns were clear. The
+//! caller keeps the [`Job`] beside the area and hands it to the next call; the area does not hold it.
+//! Another job than the one last answered for this area is not noticed, unless it is refused with
+//! [`Refusal::NoSuchJob`]: another turn number makes the words worthless, and another `made` the
+//! count of turns made.
 //!
 //! A **result record** has 2,049 bytes: the kind byte 2, then R row by row, then Q transposed.
 //!
@@ -55,13 +63,13 @@
 //! ```
 //! # let mut record = [1; hubqr::MATRIX_RECORD_BYTES];
 //! let mut area = [0; hubqr::AREA_WORDS];
-//! let mut turn = hubqr::load(&record, &mut area)?.turn;
-//! while turn < hubqr::TURNS {
-//!     turn = hubqr::run(turn, 7, &mut area)?.turn;
+//! let mut job = hubqr::load(&record, &mut area)?.job;
+//! while !job.is_finished() {
+//!     job = hubqr::run(job, 7, &mut area)?.job;
 //!     // other work goes here
 //! }
 //! let mut result = [0; hubqr::RESULT_RECORD_BYTES];
-//! hubqr::fetch(turn, &area, &mut result)?;
+//! hubqr::fetch(job, &area, &mut result)?;
 //! # Ok::<(), hubqr::Refusal>(())
 //! ```
 //!
@@ -101,7 +109,7 @@ pub use calls::{Clamps, Factored, Loaded, Progress, Restored};
 #[cfg(feature = "archive")]
 pub use covariance::Covariance;
 #[cfg(feature = "archive")]
-pub use ffi::{Sample, Weight};
+pub use ffi::{Job, Sample, Weight};
 pub use refusal::{Refusal, UnknownNumber};
 #[cfg(feature = "archive")]
 pub use weights::weights;

@@ -10,10 +10,14 @@ macro_rules! refusals {
         ///
         /// ```
         /// let mut area = [0; hubqr::AREA_WORDS];
-        /// let refusal = hubqr::run(121, 1, &mut area).unwrap_err();
-        /// assert_eq!(refusal, hubqr::Refusal::NoSuchTurn);
+        /// let job = hubqr::Job { turn: 121, made: 0 };
+        /// let refusal = hubqr::run(job, 1, &mut area).unwrap_err();
+        /// assert_eq!(refusal, hubqr::Refusal::NoSuchJob);
         /// assert_eq!(refusal.number(), 5);
-        /// assert_eq!(refusal.to_string(), "the turn number is above 120");
+        /// assert_eq!(
+        ///     refusal.to_string(),
+        ///     "the turn number is above 120, or less than the turns made"
+        /// );
         /// ```
         #[derive(Clone, Copy, Debug, PartialEq, Eq, Hash)]
         #[repr(u8)]
@@ -43,7 +47,7 @@ refusals! {
     WrongLength = 2, "the record's length is not 257 bytes for a matrix or 2,049 bytes for a result";
     AreaTooShort = 3, "the area has fewer than 512 words";
     NoneHeard = 4, "no antenna was heard: the real part of every diagonal element is 16 or less";
-    NoSuchTurn = 5, "the turn number is above 120";
+    NoSuchJob = 5, "the turn number is above 120, or less than the turns made";
     Unfinished = 6, "the turn number is under 120, so the result is not finished";
     BufferTooShort = 7, "the buffer has fewer than 2,049 bytes for a result \
                          or 257 bytes for a matrix";

@@ -4,6 +4,7 @@
 use super::digest;
 use crate::calls;
 use crate::clamps::Clamps;
+use crate::job::Job;
 use crate::replies::{LoadReply, RunReply};
 
 #[derive(Default)]
@@ -23,41 +24,46 @@ impl Host {
 
     /// Answers the refusal number, or 0.
     pub fn load(&mut self, record: &[u8], area: &mut [i32]) -> u8 {
-        let LoadReply {
-            number,
-            turn,
-            heard,
-        } = calls::load(record, area);
+        let LoadReply { number, heard, job } = calls::load(record, area);
         self.write(&format!(
-            "  Load of {} bytes into {} words: number {number}, turn {turn}, heard {heard}; area {}",
+            "  Load of {} bytes into {} words: number {number}, job {}, heard {heard}; area {}",
             record.len(),
             area.len(),
+            pair(job),
             digest::of_words(area)
         ));
         number
     }
 
-    /// Answers the next turn number.
-    pub fn run(&mut self, from: u32, allowance: u16, area: &mut [i32]) -> u32 {
+    /// Answers the next job.
+    pub fn run(&mut self, from: Job, allowance: u16, area: &mut [i32]) -> Job {
         let RunReply {
             number,
-            turn,
+            job,
             count,
             clamps: Clamps { r, q },
         } = calls::run(from, allowance, area);
         self.write(&format!(
-            "  Run of {allowance} from turn {from}: number {number}, next turn {turn}, \
-             turns made {count}, clamps {r} in R, {q} in Q; area {}",
+            "  Run of {allowance} from job {}: number {number}, next job {}, count {count}, \
+             clamps {r} in R, {q} in Q; area {}",
+            pair(from),
+            pair(job),
             digest::of_words(area)
         ));
-        turn
+        job
     }
 
-    pub fn fetch(&mut self, turn: u32, area: &[i32], buffer: &mut [u8]) {
-        let number = calls::fetch(turn, area, buffer).number;
+    pub fn fetch(&mut self, job: Job, area: &[i32], buffer: &mut [u8]) {
+        let number = calls::fetch(job, area, buffer).number;
         self.write(&format!(
-            "  Fetch at turn {turn}: number {number}; buffer {}",
+            "  Fetch at job {}: number {number}; buffer {}",
+            pair(job),
             digest::of_bytes(buffer)
         ));
     }
+}
+
+/// The turn number and the turns made.
+fn pair(job: Job) -> String {
+    format!("({}, {})", job.turn, job.made)
 }

@@ -1,7 +1,7 @@
 //! The matrix records of the run-only cases.
 
 use crate::matrix::{Complex, Matrix};
-use crate::records::{write_matrix, MATRIX_KIND, MATRIX_RECORD};
+use crate::records::{parse_matrix, write_matrix, MATRIX_KIND, MATRIX_RECORD};
 
 #[derive(Debug, Clone, Copy)]
 pub enum Sample {
@@ -17,6 +17,10 @@ pub enum Sample {
     OneQuietest,
     /// Real parts -17 on the diagonal.
     Negative,
+    /// (32767, 0) on the diagonal, which no turn has anything to do with.
+    Diagonal,
+    /// The elements of the full matrix that belong to antennas 0 to 3 alone.
+    Corner,
 }
 
 /// A record, and one byte behind it.
@@ -34,6 +38,8 @@ impl Sample {
                 "Diagonal real parts 16 but antenna 5's 17, all other parts 32767"
             }
             Sample::Negative => "Diagonal real parts -17, all other parts 32767",
+            Sample::Diagonal => "Diagonal elements (32767, 0), all others 0",
+            Sample::Corner => "Parts of all sizes for antennas 0 to 3, all others 0",
         }
     }
 
@@ -46,6 +52,8 @@ impl Sample {
             Sample::Quietest => loud_but_for_the_diagonal(|_| 17),
             Sample::OneQuietest => loud_but_for_the_diagonal(|k| if k == 5 { 17 } else { 16 }),
             Sample::Negative => loud_but_for_the_diagonal(|_| -17),
+            Sample::Diagonal => of_matrix(everywhere(0).with_diagonal(|_| i16::MAX)),
+            Sample::Corner => of_matrix(corner()),
         }
     }
 }
@@ -55,6 +63,17 @@ fn full() -> Bytes {
     let mut bytes = std::array::from_fn(|i| ((i as u64 * 1_103_515_245 + 12_345) >> 16) as u8);
     bytes[0] = MATRIX_KIND;
     bytes
+}
+
+fn corner() -> Matrix {
+    let full = parse_matrix(&full()[..MATRIX_RECORD]).expect("kind and length are right");
+    Matrix::from_fn(|i, j| {
+        if i < 4 && j < 4 {
+            full.element(i, j)
+        } else {
+            Complex::ZERO
+        }
+    })
 }
 
 fn everywhere(part: i16) -> Matrix {

@@ -5,10 +5,19 @@
 use hubqr::ffi;
 use reference::clamps::Clamps;
 use reference::covariance::Snapshot;
+use reference::job::Job;
 use reference::replies::{FetchReply, LoadReply, ReadReply, RunReply, WholeReply};
 use reference::weights::WeightsReply;
 
 use super::weights::Targets;
+
+fn handed(Job { turn, made }: Job) -> ffi::Job {
+    ffi::Job { turn, made }
+}
+
+fn answered(ffi::Job { turn, made }: ffi::Job) -> Job {
+    Job { turn, made }
+}
 
 // SAFETY of all calls: the pointers and lengths come from live slices that do not overlap; what is
 // handed over by value may be anything.
@@ -24,16 +33,17 @@ pub fn load(record: &mut [u8], area: &mut [i32]) -> LoadReply {
     };
     LoadReply {
         number: reply.number,
-        turn: reply.turn,
         heard: reply.heard,
+        job: answered(reply.job),
     }
 }
 
-pub fn run(turn: u32, allowance: u16, area: &mut [i32]) -> RunReply {
-    let reply = unsafe { ffi::hubqr_run(turn, allowance, area.as_mut_ptr(), area.len()) };
+pub fn run(job: Job, allowance: u16, area: &mut [i32]) -> RunReply {
+    let (job, words) = (handed(job), area.len());
+    let reply = unsafe { ffi::hubqr_run(job, allowance, area.as_mut_ptr(), words) };
     RunReply {
         number: reply.number,
-        turn: reply.turn,
+        job: answered(reply.job),
         count: reply.count,
         clamps: Clamps {
             r: reply.clamps_r,
@@ -42,10 +52,10 @@ pub fn run(turn: u32, allowance: u16, area: &mut [i32]) -> RunReply {
     }
 }
 
-pub fn fetch(turn: u32, area: &mut [i32], buffer: &mut [u8]) -> FetchReply {
+pub fn fetch(job: Job, area: &mut [i32], buffer: &mut [u8]) -> FetchReply {
     let number = unsafe {
         ffi::hubqr_fetch(
-            turn,
+            handed(job),
             area.as_mut_ptr(),
             area.len(),
             buffer.as_mut_ptr(),
@@ -66,7 +76,7 @@ pub fn read(record: &mut [u8], area: &mut [i32]) -> ReadReply {
     };
     ReadReply {
         number: reply.number,
-        turn: reply.turn,
+        job: answered(reply.job),
     }
 }
 

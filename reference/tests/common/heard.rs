@@ -2,6 +2,7 @@
 
 use reference::accuracy::{Errors, BOUND};
 use reference::clamps::Clamps;
+use reference::job::Job;
 use reference::records::{parse_matrix, MATRIX_RECORD};
 use reference::replies::{LoadReply, WholeReply};
 
@@ -47,8 +48,8 @@ impl Heard {
         let reply = both.load(record);
         let loaded = LoadReply {
             number,
-            turn: 0,
             heard,
+            job: Job::LOADED,
         };
         both.require(reply == loaded, &format!("Load {reply:?}, due {loaded:?}"));
         let reply = both.whole(record);

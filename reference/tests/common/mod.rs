@@ -16,6 +16,8 @@ use std::fmt::{self, Debug, Display};
 
 use reference::area::{WorkArea, AREA_WORDS};
 use reference::calls;
+use reference::clamps::Clamps;
+use reference::job::Job;
 use reference::random::Random;
 use reference::records::RESULT_RECORD;
 use reference::replies::{FetchReply, LoadReply, ReadReply, RunReply, WholeReply};
@@ -133,17 +135,32 @@ impl Both {
         reference
     }
 
-    pub fn run(&mut self, turn: u32, allowance: u16) -> RunReply {
-        let engine = engine::run(turn, allowance, self.area.engine());
-        let reference = calls::run(turn, allowance, self.area.reference());
-        self.compare(&format!("Run at {turn} of {allowance}"), engine, reference);
+    /// Whatever the area holds, an accepted Run goes on by its count, makes no more turns than
+    /// that, and answers a job that exists; a refused one gives back its job, and all else is 0.
+    pub fn run(&mut self, job: Job, allowance: u16) -> RunReply {
+        let engine = engine::run(job, allowance, self.area.engine());
+        let reference = calls::run(job, allowance, self.area.reference());
+        self.compare(&format!("{job:?}, Run of {allowance}"), engine, reference);
+        let (next, count) = (engine.job, engine.count);
+        if engine.number == 0 {
+            let grown = job.made <= next.made && next.made <= job.made + count;
+            self.require(
+                grown,
+                "more turns made than the Run had, or fewer than before",
+            );
+            let within = next.turn == job.turn + count && next.turn <= 120;
+            self.require(within && next.made <= next.turn, "no such job was answered");
+        } else {
+            let nothing = next == job && count == 0 && engine.clamps == Clamps::NONE;
+            self.require(nothing, "a refused Run answered more than its job");
+        }
         reference
     }
 
-    pub fn fetch(&mut self, turn: u32) -> FetchReply {
-        let engine = engine::fetch(turn, self.area.engine(), self.buffer.engine());
-        let reference = calls::fetch(turn, self.area.reference(), self.buffer.reference());
-        self.compare(&format!("Fetch at {turn}"), engine, reference);
+    pub fn fetch(&mut self, job: Job) -> FetchReply {
+        let engine = engine::fetch(job, self.area.engine(), self.buffer.engine());
+        let reference = calls::fetch(job, self.area.reference(), self.buffer.reference());
+        self.compare(&format!("{job:?}, Fetch"), engine, reference);
         reference
     }
 

@@ -1,6 +1,7 @@
-//! Words that no Load made.
+//! Words that no Load made, and jobs that no Run answered.
 
 use reference::area::AREA_WORDS;
+use reference::job::Job;
 use reference::random::Random;
 
 /// How words are drawn.
@@ -27,6 +28,12 @@ impl Words {
             Words::Small => random.between(-20, 20) as i32,
         }
     }
+}
+
+/// A job with any turn number up to 120, and any turns made up to that.
+pub fn any_job(random: &mut Random) -> Job {
+    let turn = random.below(121);
+    Job::new(turn as u32, random.below(turn + 1) as u32)
 }
 
 /// An area of one way of drawing, or with the ways mixed word by word.

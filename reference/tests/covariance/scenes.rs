@@ -7,7 +7,6 @@ use reference::covariance::Snapshot;
 use reference::matrix::{Complex, ANTENNAS};
 use reference::random::Random;
 use reference::records::{parse_matrix, MATRIX_RECORD};
-use reference::schedule::TURNS;
 
 use crate::common::sums::{BothSums, Seen};
 use crate::common::{Both, Case};
@@ -99,13 +98,13 @@ fn factor(record: &[u8], case: Case) -> Errors {
     let mut both = Both::new(case.clone());
     let reply = both.load(record);
     both.require(reply.number == 0, "a written record was refused");
-    let mut turn = reply.turn;
-    while turn < TURNS {
-        let reply = both.run(turn, random.between(0, 40) as u16);
+    let mut job = reply.job;
+    while !job.is_finished() {
+        let reply = both.run(job, random.between(0, 40) as u16);
         both.require(reply.clamps == Clamps::NONE, "a word was clamped");
-        turn = reply.turn;
+        job = reply.job;
     }
-    let reply = both.fetch(turn);
+    let reply = both.fetch(job);
     both.require(reply.number == 0, "a worked matrix was refused");
 
     let mut at_once = Both::new(case);

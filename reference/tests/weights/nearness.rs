@@ -124,8 +124,8 @@ fn nearness(seed: u64, draw: Draw) -> (f64, f64) {
 }
 
 /// The error that the factorization leaves is about the same in steps of the input whatever the
-/// input's size, and so a larger share of quiet matrices. Each bound, a power of two, is two to
-/// five times the largest residual that was measured.
+/// input's size, and so a larger share of quiet matrices. Each bound, a power of two, is
+/// about two to five times the largest residual that was measured.
 #[test]
 fn weights_are_near_the_solution_of_well_conditioned_systems() {
     let kinds: [(&str, Draw, i32); 5] = [

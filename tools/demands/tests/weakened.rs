@@ -97,8 +97,8 @@ fn the_tree_itself_is_accepted() {
 #[test]
 fn contracts_that_say_less() {
     let face = "crates/hubqr/src/lib.rt";
-    refuses("clause", "fetch_at_any_turn", |copy| {
-        let clause = "record { number = r; buffer = now (buffer .exit) } ≡ fetchOf turn (now (area .entry)) (now (buffer .entry))";
+    refuses("clause", "fetch_of_any_job", |copy| {
+        let clause = "record { number = r; buffer = now (buffer .exit) } ≡ fetchOf job (now (area .entry)) (now (buffer .entry))";
         copy.replace(face, clause, "now (buffer .exit) ≡ now (buffer .exit)");
     });
     refuses("no-clause", "hubqr_read", |copy| {
@@ -122,8 +122,8 @@ fn theorems_that_say_less() {
         let spread = "crates/engine_laws/specs/Spread.antt";
         copy.replace(
             spread,
-            "Spread = (turn a b : ℕ) (workspace : List ℤ) →",
-            "Spread = (turn a b : ℕ) (workspace : List ℤ) → b ≡ 0 →",
+            "Spread = (job : Job) (a b : ℕ) (workspace : List ℤ) →",
+            "Spread = (job : Job) (a b : ℕ) (workspace : List ℤ) → b ≡ 0 →",
         );
     });
     refuses("in-step", "any_workspace_in_step", |copy| {

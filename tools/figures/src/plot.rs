@@ -159,7 +159,8 @@ fn summary(samples: &[Sample]) -> [String; 2] {
         share(worst.rows)
     );
     let heights = "Bar heights are scaled to the fullest bin of each row.";
-    [largest, heights.to_string()]
+    let first = "The first bin also has all errors under 2^33, with those that are 0.";
+    [largest, format!("{heights} {first}")]
 }
 
 #[cfg(test)]

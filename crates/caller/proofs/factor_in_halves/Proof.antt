@@ -32,8 +32,8 @@ same-length-2 : tie.Need-same-length-2
 same-length-2 c = search needs
 
 halves-are : (rec : List ℕ) (l words half end : List ℤ) (buffer out : List ℕ) (load : LoadReply) (first second : RunReply) (number : ℕ)
-    → record { reply = load; workspace = words } ≡ loadOf rec l → record { reply = first; workspace = half } ≡ runOf (load .turn) 60 words
-    → record { reply = second; workspace = end } ≡ runOf (first .turn) 60 half → record { number = number; buffer = out } ≡ fetchOf (second .turn) end buffer
+    → record { reply = load; workspace = words } ≡ loadOf rec l → record { reply = first; workspace = half } ≡ runOf (load .job) 60 words
+    → record { reply = second; workspace = end } ≡ runOf (first .job) 60 half → record { number = number; buffer = out } ≡ fetchOf (second .job) end buffer
     → record { reply = record { load = load; first = first; second = second; number = number }; workspace = end; buffer = out } ≡ halvesOf rec l buffer
 unfolding halvesOf
 halves-are rec l words half end buffer out load first second number d e g h = rw (← d, ← e, ← g, ← h)

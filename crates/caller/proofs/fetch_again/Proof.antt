@@ -24,7 +24,7 @@ same-length-2 : tie.Need-same-length-2
 same-length-2 c = search needs
 
 again-is : (rec : List ℕ) (l words : List ℤ) (buffer out : List ℕ) (read : ReadReply) (number : ℕ) → record { reply = read; workspace = words } ≡ readOf rec l
-    → record { number = number; buffer = out } ≡ fetchOf (read .turn) words buffer
+    → record { number = number; buffer = out } ≡ fetchOf (read .job) words buffer
     → record { reply = record { read = read; number = number }; workspace = words; buffer = out } ≡ againOf rec l buffer
 unfolding againOf
 again-is rec l words buffer out read number d e = rw (← d, ← e)

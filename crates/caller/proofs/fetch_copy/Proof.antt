@@ -27,7 +27,7 @@ same-length-3 : tie.Need-same-length-3
 same-length-3 c = search needs
 
 copy-is : (rec : List ℕ) (l words : List ℤ) (buffer out copy out' : List ℕ) (whole : WholeReply) (number : ℕ)
-    → record { reply = whole; workspace = words; buffer = out } ≡ wholeOf rec l buffer → record { number = number; buffer = out' } ≡ fetchOf 120 words copy
+    → record { reply = whole; workspace = words; buffer = out } ≡ wholeOf rec l buffer → record { number = number; buffer = out' } ≡ fetchOf (record { turn = 120; made = 0 }) words copy
     → record { reply = record { whole = whole; number = number }; workspace = words; buffer = out; copy = out' } ≡ copyOf rec l buffer copy
 unfolding copyOf
 copy-is rec l words buffer out copy out' whole number d e = rw (← d, ← e)

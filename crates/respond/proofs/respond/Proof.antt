@@ -14,7 +14,7 @@ use Rattle.lists.proofs.Tabulate.{length-tabulate, filled-all}
 use Rattle.result_record.specs.ResultRecord.{resultByte}
 use Rattle.workspace.specs.Workspace.{R, Q}
 use Rattle.workspace.specs.Loading.{loadedWords}
-use Rattle.workspace.specs.Rotations.{rotationsMade}
+use Rattle.workspace.specs.Rotations.{wordsAfter}
 use Rattle.engine.specs.Whole.{WholeOutcome, wholeRefusal, wholeDone, wholeBy, wholeOf}
 use Rattle.respond.specs.Response.{responseBy, response}
 use Rattle.respond.proofs.respond.Statement.{statement}
@@ -54,7 +54,7 @@ module _ (rec out : List ℕ) (size : length out ≡ 2049) where
       → (2049 ≡ length (answered number)) × (o .buffer ≡ answered number ++ drop 2049 out)
   unfolding wholeBy wholeDone
   accepted zero o e a =
-      let words : List ℤ = rotationsMade 0 120 (loadedWords rec zeros) in
+      let words : List ℤ = wordsAfter 0 120 (loadedWords rec zeros) in
       let f : ℕ → ℕ = resultByte (R words) (Q words) in
       let b : filled 2049 f blank ≡ tabulate 2049 f = filled-all 2049 f blank (omega arith) in
       let n : length (filled 2049 f blank) ≡ 2049 = ap length b ∙ length-tabulate 2049 f in

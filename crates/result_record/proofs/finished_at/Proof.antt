@@ -5,8 +5,7 @@ use lib.IntN.{pos}
 use lib.Signed.{leZ}
 use mir.Facts.{toZ-ofZ}
 use Rattle.result_record.specs.ResultRecord.{isFinishedAt}
-use Rattle.integers.proofs.Magnitude.{nonneg-test}
-use Rattle.words.proofs.Twos.{zero-bits}
+use Rattle.integers.proofs.Magnitude.{nonneg-test, zero-bits}
 use Rattle.result_record.proofs.finished_at.Statement.{statement}
 use Rattle.result_record.proofs.finished_at.Tie as tie
 

@@ -11,10 +11,9 @@ use lib.IntN.{ℤ}
 use mir.Syntax.{w32}
 use mir.Val.{ofZ}
 use Rattle.integers.specs.Matrix.{isZero}
-use Rattle.integers.proofs.Magnitude.{read-back}
+use Rattle.integers.proofs.Magnitude.{read-back, zero-bits}
 use Rattle.lists.specs.Lists.{allBelow}
 use Rattle.lists.proofs.Passing.{Passed, pass-none, pass-more, pass-fails, pass-last}
-use Rattle.words.proofs.Twos.{zero-bits}
 use Rattle.result_record.specs.ResultRecord.{recordR, isFinishedAt}
 use Rattle.result_record.proofs.row_finished.Statement.{statement}
 use Rattle.result_record.proofs.row_finished.Tie as tie

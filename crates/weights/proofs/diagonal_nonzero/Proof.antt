@@ -10,7 +10,7 @@ use mir.Syntax.{w32}
 use mir.Val.{ofZ}
 use Rattle.integers.specs.Matrix.{isZero}
 use Rattle.lists.proofs.Passing.{Passed, pass-none, pass-more, pass-done, pass-fails}
-use Rattle.words.proofs.Twos.{zero-bits}
+use Rattle.integers.proofs.Magnitude.{zero-bits}
 use Rattle.result_record.specs.ResultRecord.{recordR}
 use Rattle.weights.specs.Weights.{diagonalNonzero}
 use Rattle.weights.proofs.diagonal_nonzero.Statement.{statement}

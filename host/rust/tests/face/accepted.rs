@@ -1,19 +1,20 @@
 //! Accepted calls: replies, and that instalments, threads and a detour over records make no difference.
-use crate::lent::{matrix, mixed_matrix, Lent, MIXED_HEARD, NO_CLAMPS};
+use crate::lent::{at, matrix, mixed_matrix, Lent, MIXED_HEARD, NO_CLAMPS};
 use hubqr::{Clamps, AREA_WORDS, Q_ONE, RESULT_RECORD_BYTES, R_ONE, TURNS};
 
 /// Load, Runs of one allowance, Fetch.
 fn in_instalments(record: &[u8], allowance: u16) -> Lent {
     let mut lent = Lent::new();
-    let mut turn = hubqr::load(record, &mut lent.area).unwrap().turn;
-    while turn < TURNS {
-        let progress = hubqr::run(turn, allowance, &mut lent.area).unwrap();
-        assert_eq!(progress.turn, turn + progress.count);
-        assert_eq!(progress.count, u32::from(allowance).min(TURNS - turn));
+    let mut job = hubqr::load(record, &mut lent.area).unwrap().job;
+    assert_eq!(job, at(0, 0));
+    while !job.is_finished() {
+        let progress = hubqr::run(job, allowance, &mut lent.area).unwrap();
+        assert_eq!(progress.job.turn, job.turn + progress.count);
+        assert_eq!(progress.count, u32::from(allowance).min(TURNS - job.turn));
         assert_eq!(progress.clamps, NO_CLAMPS);
-        turn = progress.turn;
+        job = progress.job;
     }
-    hubqr::fetch(turn, &lent.area, &mut lent.buffer).unwrap();
+    hubqr::fetch(job, &lent.area, &mut lent.buffer).unwrap();
     lent
 }
 
@@ -60,9 +61,15 @@ fn instalments_make_no_difference() {
 fn a_run_may_make_no_turn() {
     let mut lent = in_instalments(&mixed_matrix(), 120);
     let before = lent.clone();
-    for (turn, allowance) in [(120, u16::MAX), (120, 0), (60, 0)] {
-        let progress = hubqr::run(turn, allowance, &mut lent.area).unwrap();
-        assert_eq!((progress.turn, progress.count), (turn, 0));
+    for (job, allowance) in [
+        (at(120, 0), u16::MAX),
+        (at(120, 120), u16::MAX),
+        (at(120, 7), 0),
+        (at(60, 0), 0),
+        (at(60, 60), 0),
+    ] {
+        let progress = hubqr::run(job, allowance, &mut lent.area).unwrap();
+        assert_eq!((progress.job, progress.count), (job, 0));
         assert_eq!(progress.clamps, NO_CLAMPS);
         assert_eq!(lent, before);
     }
@@ -87,7 +94,8 @@ fn clamps_are_counted_by_side() {
             false => 1000,
         };
         let mut area: [i32; AREA_WORDS] = std::array::from_fn(word);
-        let progress = hubqr::run(119, 1, &mut area).unwrap();
+        let progress = hubqr::run(at(119, 119), 1, &mut area).unwrap();
+        assert_eq!(progress.job, at(120, 120));
         assert_eq!(progress.clamps, Clamps { r, q }, "columns {columns:?}");
     }
 }
@@ -98,8 +106,8 @@ fn a_result_record_reads_back_to_itself() {
     let mut lent = Lent::new();
     let record = &worked.buffer[..RESULT_RECORD_BYTES];
     let restored = hubqr::read(record, &mut lent.area).unwrap();
-    assert_eq!(restored.turn, TURNS);
-    hubqr::fetch(restored.turn, &lent.area, &mut lent.buffer).unwrap();
+    assert_eq!(restored.job, at(120, 0));
+    hubqr::fetch(restored.job, &lent.area, &mut lent.buffer).unwrap();
     assert_eq!(lent, worked);
 }
 
@@ -107,9 +115,9 @@ fn a_result_record_reads_back_to_itself() {
 fn q_times_r_is_the_input_at_its_scale() {
     let record = mixed_matrix();
     let mut area = [0; AREA_WORDS];
-    hubqr::load(&record, &mut area).unwrap();
+    let job = hubqr::load(&record, &mut area).unwrap().job;
     let loaded = area;
-    hubqr::run(0, 120, &mut area).unwrap();
+    hubqr::run(job, 120, &mut area).unwrap();
     for (i, j) in (0..256).map(|place| (place / 16, place % 16)) {
         let product = |k: usize| i128::from(area[32 * k + 16 + i]) * i128::from(area[32 * k + j]);
         let sum: i128 = (0..16).map(product).sum();

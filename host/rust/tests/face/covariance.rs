@@ -1,6 +1,6 @@
 //! Snapshots added up and written: sums, parts and refusals.
 use crate::heard::hears;
-use crate::lent::{matrix, Lent};
+use crate::lent::{at, matrix, Lent};
 use hubqr::Refusal::{self, *};
 use hubqr::{ffi, Covariance, Sample};
 use hubqr::{ANTENNAS, HEARD_ABOVE, KIND_RESULT, MATRIX_RECORD_BYTES, SNAPSHOTS_MAX, SUM_WORDS};
@@ -287,7 +287,7 @@ fn a_written_record_is_loaded_and_factored() {
     covariance.write(&mut record).unwrap();
     let mut lent = Lent::new();
     let loaded = hubqr::load(&record, &mut lent.area).unwrap();
-    assert_eq!((loaded.turn, loaded.heard), (0, 0xff));
+    assert_eq!((loaded.job, loaded.heard), (at(0, 0), 0xff));
     assert_eq!(lent.area[0], 8192 * i32::from(written(&covariance)[0]));
     let factored = hubqr::whole(&record, &mut lent.area, &mut lent.buffer).unwrap();
     assert_eq!((factored.heard, lent.buffer[0]), (0xff, KIND_RESULT));

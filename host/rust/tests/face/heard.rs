@@ -1,6 +1,6 @@
 //! Who is heard: Load and Whole look at the real parts of the diagonal and at nothing else, and refuse
 //! a matrix in which no antenna is heard.
-use crate::lent::{equal_parts, matrix, Lent, NO_CLAMPS};
+use crate::lent::{at, equal_parts, matrix, Lent, NO_CLAMPS};
 use hubqr::Refusal::NoneHeard;
 use hubqr::{ANTENNAS, HEARD_ABOVE};
 
@@ -20,7 +20,7 @@ pub fn hears(record: &[u8], heard: u8) {
         return;
     }
     let (load, whole) = (load.unwrap(), whole.unwrap());
-    assert_eq!((load.heard, load.turn), (heard, 0));
+    assert_eq!((load.heard, load.job), (heard, at(0, 0)));
     assert_eq!((whole.heard, whole.clamps), (heard, NO_CLAMPS));
     assert!(loaded.tails_untouched() && worked.tails_untouched());
 }

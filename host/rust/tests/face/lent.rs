@@ -1,7 +1,12 @@
 //! What the tests share: records, and an area and a buffer with something behind what the calls use.
-use hubqr::{Clamps, AREA_WORDS, KIND_MATRIX, MATRIX_RECORD_BYTES, RESULT_RECORD_BYTES};
+use hubqr::{Clamps, Job, AREA_WORDS, KIND_MATRIX, MATRIX_RECORD_BYTES, RESULT_RECORD_BYTES};
 
 pub const NO_CLAMPS: Clamps = Clamps { r: 0, q: 0 };
+
+/// The job at a turn number, with so many turns made.
+pub const fn at(turn: u32, made: u32) -> Job {
+    Job { turn, made }
+}
 
 /// Lent memory, longer than needed and filled with what no call writes.
 #[derive(Clone, Debug, PartialEq)]

@@ -2,6 +2,7 @@
 mod accepted;
 mod covariance;
 mod heard;
+mod job;
 mod lent;
 mod refusal;
 mod refused;

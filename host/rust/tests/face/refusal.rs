@@ -23,6 +23,10 @@ fn each_has_words_of_its_own() {
         "no antenna was heard: the real part of every diagonal element is 16 or less"
     );
     assert_eq!(
+        Refusal::NoSuchJob.to_string(),
+        "the turn number is above 120, or less than the turns made"
+    );
+    assert_eq!(
         Refusal::ZeroDiagonal.to_string(),
         "one of R's 16 diagonal words is 0"
     );

@@ -1,7 +1,22 @@
 //! Refused calls: each call's numbers in the order of its tests, and that nothing lent is changed.
-use crate::lent::{equal_parts, mixed_matrix, Lent};
+use crate::lent::{at, equal_parts, mixed_matrix, Lent};
 use hubqr::Refusal::{self, *};
-use hubqr::{AREA_WORDS, KIND_REFUSAL, KIND_RESULT, RESULT_RECORD_BYTES};
+use hubqr::{ffi, Job, AREA_WORDS, KIND_REFUSAL, KIND_RESULT, RESULT_RECORD_BYTES};
+
+/// Jobs that are none: a turn number above 120, or more turns made than that.
+const NO_JOBS: [Job; 11] = [
+    at(121, 0),
+    at(121, 121),
+    at(u32::MAX, 0),
+    at(u32::MAX, u32::MAX),
+    at(0, 1),
+    at(0, u32::MAX),
+    at(5, 6),
+    at(119, 120),
+    at(119, u32::MAX),
+    at(120, 121),
+    at(120, u32::MAX),
+];
 
 /// Makes a call that must be refused, on newly scribbled memory, and looks whether it stayed.
 fn refused<T>(call: impl FnOnce(&mut Lent) -> Result<T, Refusal>, with: Refusal) {
@@ -64,36 +79,81 @@ fn load_refuses() {
 
 #[test]
 fn run_refuses() {
-    for turn in [0, 120, 121, u32::MAX] {
+    let jobs = [at(0, 0), at(120, 0), at(120, 120)];
+    for job in jobs.into_iter().chain(NO_JOBS) {
         refused(
-            |lent| hubqr::run(turn, 1, &mut lent.area[..511]),
+            |lent| hubqr::run(job, 1, &mut lent.area[..511]),
             AreaTooShort,
         );
-        refused(|_| hubqr::run(turn, 1, &mut []), AreaTooShort);
+        refused(|_| hubqr::run(job, 1, &mut []), AreaTooShort);
     }
-    for turn in [121, u32::MAX] {
-        refused(|lent| hubqr::run(turn, 1, &mut lent.area), NoSuchTurn);
-        refused(|lent| hubqr::run(turn, 0, &mut lent.area), NoSuchTurn);
+    for job in NO_JOBS {
+        refused(|lent| hubqr::run(job, 1, &mut lent.area), NoSuchJob);
+        refused(|lent| hubqr::run(job, 0, &mut lent.area), NoSuchJob);
+    }
+}
+
+/// The archive's reply to a refused Run has the job that it was handed, and 0 in all other fields.
+#[test]
+fn a_refused_run_gives_the_job_back() {
+    let mut area = [7; AREA_WORDS];
+    let mut given_back = |job, words: usize, with: Refusal| {
+        // SAFETY: the length is at most that of the array.
+        let reply = unsafe { ffi::hubqr_run(job, 120, area.as_mut_ptr(), words) };
+        let due = ffi::RunReply {
+            number: with.number(),
+            job,
+            count: 0,
+            clamps_r: 0,
+            clamps_q: 0,
+        };
+        assert_eq!((reply, area), (due, [7; AREA_WORDS]));
+    };
+    for job in NO_JOBS {
+        given_back(job, 512, NoSuchJob);
+        given_back(job, 511, AreaTooShort);
+    }
+    given_back(at(7, 5), 511, AreaTooShort);
+    given_back(at(120, 120), 0, AreaTooShort);
+}
+
+#[test]
+fn a_refused_load_or_read_answers_the_job_0_0() {
+    let mut area = [7; AREA_WORDS];
+    for record in [vec![KIND_REFUSAL], hum(), result_with(0, -1)] {
+        let (bytes, length) = (record.as_ptr(), record.len());
+        // SAFETY: pointers and lengths are those of a vector and an array.
+        let loaded = unsafe { ffi::hubqr_load(bytes, length, area.as_mut_ptr(), area.len()) };
+        let restored = unsafe { ffi::hubqr_read(bytes, length, area.as_mut_ptr(), area.len()) };
+        assert!(loaded.number > 0 && restored.number > 0);
+        assert_eq!((loaded.heard, loaded.job), (0, at(0, 0)));
+        assert_eq!(restored.job, at(0, 0));
     }
 }
 
 #[test]
 fn fetch_refuses() {
-    let fetch = |turn, words: usize, bytes: usize, number| {
+    let fetch = |job, words: usize, bytes: usize, number| {
         refused(
-            |lent| hubqr::fetch(turn, &lent.area[..words], &mut lent.buffer[..bytes]),
+            |lent| hubqr::fetch(job, &lent.area[..words], &mut lent.buffer[..bytes]),
             number,
         );
     };
-    fetch(121, 511, 0, AreaTooShort);
-    fetch(0, 0, 0, AreaTooShort);
-    fetch(121, 512, 0, NoSuchTurn);
-    fetch(u32::MAX, 512, 2049, NoSuchTurn);
-    fetch(119, 512, 0, Unfinished);
-    fetch(0, 512, 2049, Unfinished);
-    fetch(120, 512, 2048, BufferTooShort);
-    fetch(120, 512, 0, BufferTooShort);
-    fetch(120, 512, 2049, NotTriangular);
+    for job in NO_JOBS {
+        fetch(job, 511, 0, AreaTooShort);
+        fetch(job, 512, 0, NoSuchJob);
+        fetch(job, 512, 2049, NoSuchJob);
+    }
+    fetch(at(0, 0), 0, 0, AreaTooShort);
+    for job in [at(119, 0), at(119, 119), at(5, 5), at(0, 0)] {
+        fetch(job, 512, 0, Unfinished);
+        fetch(job, 512, 2049, Unfinished);
+    }
+    for job in [at(120, 0), at(120, 120)] {
+        fetch(job, 512, 2048, BufferTooShort);
+        fetch(job, 512, 0, BufferTooShort);
+        fetch(job, 512, 2049, NotTriangular);
+    }
 }
 
 #[test]

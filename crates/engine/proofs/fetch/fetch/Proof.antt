@@ -24,7 +24,7 @@ returns : tie.Need-returns
 unfolding fetchOf
 returns c = rw (← c .before .fetch-refusal .ensures) (refused _ _ _ (c .if1 .taken))
 
-none : (c : tie.After-write-arg) → let a = c .before .before .before .before .before .args in fetchRefusal (a .turn) (a .workspace .now) (a .buffer .now) ≡ 0
+none : (c : tie.After-write-arg) → let a = c .before .before .before .before .before .args in fetchRefusal (a .job) (a .workspace .now) (a .buffer .now) ≡ 0
 none c = sym (c .before .before .fetch-refusal .ensures) ∙ c .before .if1 .left
 
 write-requires : tie.Need-write-requires

@@ -15,7 +15,7 @@ load-refusal-requires c κs = search needs
 same-length : tie.Need-same-length
 same-length c = search needs
 
-refused : (n : ℕ) (rec : List ℕ) (l : List ℤ) → (n ≡ 0 → ⊥) → record { reply = record { number = n; heard = 0; turn = 0 }; workspace = l } ≡ loadBy n rec l
+refused : (n : ℕ) (rec : List ℕ) (l : List ℤ) → (n ≡ 0 → ⊥) → record { reply = record { number = n; heard = 0; job = record { turn = 0; made = 0 } }; workspace = l } ≡ loadBy n rec l
 unfolding loadBy
 refused zero rec l f = absurd (f refl)
 refused (suc n) rec l f = refl

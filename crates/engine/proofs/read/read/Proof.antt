@@ -15,7 +15,7 @@ read-refusal-requires c κs = search needs
 same-length : tie.Need-same-length
 same-length c = search needs
 
-refused : (n : ℕ) (rec : List ℕ) (l : List ℤ) → (n ≡ 0 → ⊥) → record { reply = record { number = n; turn = 0 }; workspace = l } ≡ readBy n rec l
+refused : (n : ℕ) (rec : List ℕ) (l : List ℤ) → (n ≡ 0 → ⊥) → record { reply = record { number = n; job = record { turn = 0; made = 0 } }; workspace = l } ≡ readBy n rec l
 unfolding readBy
 refused zero rec l f = absurd (f refl)
 refused (suc n) rec l f = refl

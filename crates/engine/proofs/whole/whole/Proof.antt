@@ -11,7 +11,7 @@ use Rattle.result_record.specs.ResultRecord.{resultByte}
 use Rattle.rotation.specs.declared.Saturations.{Saturations}
 use Rattle.workspace.specs.Workspace.{R, Q}
 use Rattle.workspace.specs.Loading.{loadedWords}
-use Rattle.workspace.specs.Rotations.{rotationsMade, saturationsCounted}
+use Rattle.workspace.specs.Rotations.{wordsAfter, saturationsCounted}
 use Rattle.engine.specs.Whole.{wholeRefusal, wholeDone, wholeBy, wholeOf}
 use Rattle.engine.proofs.Accepted.{whole-accepted}
 use borrow.Author.Needs.{needs}
@@ -43,8 +43,8 @@ none c = sym (c .before .whole-refusal .ensures) ∙ c .if1 .left
 fill-from-matrix-requires : tie.Need-fill-from-matrix-requires
 fill-from-matrix-requires c κs = let s = whole-accepted _ _ _ (none (c .before)) .load in (s .header .sized, s .room)
 
-make-rotations-requires : tie.Need-make-rotations-requires
-make-rotations-requires c κs =
+take-turns-requires : tie.Need-take-turns-requires
+take-turns-requires c κs =
     let d = c .before .before in
     let s = whole-accepted _ _ _ (none (d .before .before)) .load in
     (lit≤ tt, omega (arith, d .fill-from-matrix .kept .1 .0, s .room))
@@ -54,7 +54,7 @@ write-requires c κs =
     let e = c .before .before .before in
     let d = e .before .before .before in
     let s = whole-accepted _ _ _ (none (d .before .before)) in
-    (omega (arith, e .make-rotations .kept .1 .1 .0, d .fill-from-matrix .kept .1 .0, s .load .room), s .space)
+    (omega (arith, e .take-turns .kept .1 .1 .0, d .fill-from-matrix .kept .1 .0, s .load .room), s .space)
 
 heard-byte-requires : tie.Need-heard-byte-requires
 heard-byte-requires c κs =
@@ -68,7 +68,7 @@ same-length-4 : tie.Need-same-length-4
 same-length-4 c = search needs
 
 -- the three steps, one after the other
-done-is : (rec : List ℕ) (l : List ℤ) (buffer : List ℕ) (heard : ℕ) (f words : List ℤ) (t : Saturations) (b : List ℕ) → f ≡ loadedWords rec l → words ≡ rotationsMade 0 120 f → t ≡ saturationsCounted 0 120 f
+done-is : (rec : List ℕ) (l : List ℤ) (buffer : List ℕ) (heard : ℕ) (f words : List ℤ) (t : Saturations) (b : List ℕ) → f ≡ loadedWords rec l → words ≡ wordsAfter 0 120 f → t ≡ saturationsCounted 0 120 f
     → b ≡ filled 2049 (resultByte (R words) (Q words)) buffer → heard ≡ heardByte rec
     → record { reply = record { number = 0; heard = heard; «clamps_r» = t .r; «clamps_q» = t .q }; workspace = words; buffer = b } ≡ wholeDone rec l buffer
 unfolding wholeDone
@@ -81,8 +81,8 @@ returns-2 c =
     let e = w .before .before .before .before in
     let d = e .before .before .before in
     rw (none (d .before .before))
-    (done-is _ _ _ (c .heard-byte .result) (d .fill-from-matrix .last .1 .0) (e .make-rotations .last .1 .1 .0) (e .make-rotations .result) (w .write .last .1 .0)
-    (d .fill-from-matrix .ensures) (e .make-rotations .ensures .0) (e .make-rotations .ensures .1) (w .write .ensures) (c .heard-byte .ensures))
+    (done-is _ _ _ (c .heard-byte .result) (d .fill-from-matrix .last .1 .0) (e .take-turns .last .1 .1 .0) (e .take-turns .result .saturations) (w .write .last .1 .0)
+    (d .fill-from-matrix .ensures) (e .take-turns .ensures .0) (e .take-turns .ensures .1 .0) (w .write .ensures) (c .heard-byte .ensures))
 
 pub whole-spec : {M : Type 1} → statement M
 whole-spec =
@@ -93,7 +93,7 @@ whole-spec =
     same-length-2
     returns
     fill-from-matrix-requires
-    make-rotations-requires
+    take-turns-requires
     write-requires
     heard-byte-requires
     same-length-3

@@ -1,4 +1,4 @@
--- `rotate_workspace` meets its contract: the part from the upper row on goes to the rotation, and comes back. Assumes nothing.
+-- `turn_workspace` meets its contract: the part from the upper row on goes to the turn, and comes back. Assumes nothing.
 use Prim.Native.Nat.{ℕ, _-_, _*_}
 use native.Mathlib.Nat.{le-refl}
 use mathlib.Core.Path.{_≡_, _∙_}
@@ -10,11 +10,11 @@ use denote.Ref.{now}
 use borrow.Rule.Slice.PartMut.{putMid}
 use borrow.Author.Needs.{needs}
 use Rattle.rotation.specs.declared.Saturations.{Saturations}
-use Rattle.rotation.specs.Rotated.{rotated, saturationsOf}
+use Rattle.rotation.specs.Turn.{turned, turnSaturations, turnMade}
 use Rattle.schedule.specs.declared.Rotation.{Rotation}
-use Rattle.workspace.specs.Rotations.{workspaceRotated, workspaceSaturations}
-use Rattle.workspace.proofs.rotations.rotate_workspace.Statement.{statement}
-use Rattle.workspace.proofs.rotations.rotate_workspace.Tie as tie
+use Rattle.workspace.specs.Rotations.{workspaceTurned, workspaceSaturations, workspaceMade}
+use Rattle.workspace.proofs.rotations.turn_workspace.Statement.{statement}
+use Rattle.workspace.proofs.rotations.turn_workspace.Tie as tie
 
 -- the part from a on is what is left, and nothing comes after it
 part-is : (a : ℕ) (l : List ℤ) → take (length l - a) (drop a l) ≡ drop a l
@@ -23,14 +23,18 @@ part-is a l = take-all (length l - a) (drop a l) (rw length-drop (le-refl (lengt
 after-is : (a : ℕ) (l : List ℤ) → drop (length l - a) (drop a l) ≡ []
 after-is a l = drop-of-length-le (drop a l) {i = length l - a} (rw length-drop (le-refl (length l - a)))
 
--- the workspace with the rotated part put back, and what was counted
-words-are : (t : Rotation) (l words : List ℤ) → words ≡ rotated (t .column) (t .lower - t .upper) (take (length l - t .upper * 32) (drop (t .upper * 32) l)) → putMid (t .upper * 32) (length l - t .upper * 32) l words ≡ workspaceRotated t l
-unfolding workspaceRotated
+-- the workspace with the part put back, what was counted, and whether the turn was made
+words-are : (t : Rotation) (l words : List ℤ) → words ≡ turned (t .column) (t .lower - t .upper) (take (length l - t .upper * 32) (drop (t .upper * 32) l)) → putMid (t .upper * 32) (length l - t .upper * 32) l words ≡ workspaceTurned t l
+unfolding workspaceTurned
 words-are t l words e = rw (e, part-is (t .upper * 32) l, after-is (t .upper * 32) l, append-nil)
 
-saturations-are : (t : Rotation) (l : List ℤ) (saturations : Saturations) → saturations ≡ saturationsOf (t .column) (t .lower - t .upper) (take (length l - t .upper * 32) (drop (t .upper * 32) l)) → saturations ≡ workspaceSaturations t l
+saturations-are : (t : Rotation) (l : List ℤ) (saturations : Saturations) → saturations ≡ turnSaturations (t .column) (t .lower - t .upper) (take (length l - t .upper * 32) (drop (t .upper * 32) l)) → saturations ≡ workspaceSaturations t l
 unfolding workspaceSaturations
 saturations-are t l saturations e = e ∙ rw (part-is (t .upper * 32) l)
+
+made-is : (t : Rotation) (l : List ℤ) (made : ℕ) → made ≡ turnMade (t .column) (t .lower - t .upper) (take (length l - t .upper * 32) (drop (t .upper * 32) l)) → made ≡ workspaceMade t l
+unfolding workspaceMade
+made-is t l made e = e ∙ rw (part-is (t .upper * 32) l)
 
 mul-start : tie.Need-mul-start
 mul-start c = search needs
@@ -59,10 +63,11 @@ same-length c = search needs
 returns : tie.Need-returns
 returns c =
     let a = c .before .before .before .before .before .args in
-    (words-are (a .t) (now (a .workspace)) (c .before .rotate .last .0) (c .before .rotate .ensures .0), saturations-are (a .t) (now (a .workspace)) (c .before .rotate .result) (c .before .rotate .ensures .1))
+    let r = c .before .rotate in
+    (words-are (a .t) (now (a .workspace)) (r .last .0) (r .ensures .0), (saturations-are (a .t) (now (a .workspace)) (r .result .saturations) (r .ensures .1 .0), made-is (a .t) (now (a .workspace)) (r .result .made) (r .ensures .1 .1)))
 
-pub rotate-workspace-spec : {M : Type 1} → statement M
-rotate-workspace-spec =
+pub turn-workspace-spec : {M : Type 1} → statement M
+turn-workspace-spec =
     tie.close
     (tie.spec
     mul-start

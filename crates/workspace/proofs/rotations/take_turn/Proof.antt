@@ -1,4 +1,4 @@
--- `make_rotation` meets its contract: the schedule's shape is what a rotation of the workspace asks. Assumes nothing.
+-- `take_turn` meets its contract: the schedule's shape is what a turn of the workspace asks. Assumes nothing.
 use Prim.Native.Nat.{ℕ, _<_}
 use native.Mathlib.Omega.{arith}
 use mathlib.Core.Path.{_≡_, _∙_}
@@ -6,8 +6,8 @@ use borrow.Author.Needs.{needs}
 use Rattle.schedule.specs.declared.Rotation.{Rotation}
 use Rattle.schedule.specs.Schedule.{rotationAt}
 use Rattle.schedule.proofs.Clear.{rotation-shape}
-use Rattle.workspace.proofs.rotations.make_rotation.Statement.{statement}
-use Rattle.workspace.proofs.rotations.make_rotation.Tie as tie
+use Rattle.workspace.proofs.rotations.take_turn.Statement.{statement}
+use Rattle.workspace.proofs.rotations.take_turn.Tie as tie
 
 rotation-at-requires : tie.Need-rotation-at-requires
 rotation-at-requires c κs = search needs
@@ -15,8 +15,8 @@ rotation-at-requires c κs = search needs
 shape : (n : ℕ) → n < 120 → (t : Rotation) → t ≡ rotationAt n → (t .column < 16) × (t .upper < t .lower) × (t .lower < 16)
 shape n h t e = let s = rotation-shape n h in rw e (omega arith, s .1, s .2)
 
-rotate-workspace-requires : tie.Need-rotate-workspace-requires
-rotate-workspace-requires c κs =
+turn-workspace-requires : tie.Need-turn-workspace-requires
+turn-workspace-requires c κs =
     let d = c .before in
     let s = shape (d .before .args .n) (d .before .pre .1) (d .rotation-at .result) (d .rotation-at .ensures) in
     (s .0, s .1, s .2, d .before .pre .2)
@@ -27,7 +27,8 @@ same-length c = search needs
 returns : tie.Need-returns
 returns c =
     let e = c .before .before .before .rotation-at .ensures in
-    (c .before .rotate-workspace .ensures .0 ∙ rw e, c .before .rotate-workspace .ensures .1 ∙ rw e)
+    let r = c .before .turn-workspace .ensures in
+    (r .0 ∙ rw e, (r .1 .0 ∙ rw e, r .1 .1 ∙ rw e))
 
-pub make-rotation-spec : {M : Type 1} → statement M
-make-rotation-spec = tie.close (tie.spec rotation-at-requires rotate-workspace-requires same-length returns)
+pub take-turn-spec : {M : Type 1} → statement M
+take-turn-spec = tie.close (tie.spec rotation-at-requires turn-workspace-requires same-length returns)

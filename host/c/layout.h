@@ -1,0 +1,61 @@
+/* Sizes and places of all structs in the headers, as the archive was compiled with them, for the tests in C and in C++. */
+#ifndef LAYOUT_H
+#define LAYOUT_H
+
+#include "hubqr.h"
+
+#include <assert.h>
+
+#define SIZE(type, bytes) static_assert(sizeof(struct type) == (bytes), "size of struct " #type)
+#define PLACE(type, field, offset) static_assert(offsetof(struct type, field) == (offset), "place of " #type "." #field)
+
+SIZE(hubqr_job, 8);
+PLACE(hubqr_job, turn, 0);
+PLACE(hubqr_job, made, 4);
+
+SIZE(hubqr_load_reply, 12);
+PLACE(hubqr_load_reply, number, 0);
+PLACE(hubqr_load_reply, heard, 1);
+PLACE(hubqr_load_reply, job, 4);
+
+SIZE(hubqr_run_reply, 24);
+PLACE(hubqr_run_reply, number, 0);
+PLACE(hubqr_run_reply, job, 4);
+PLACE(hubqr_run_reply, count, 12);
+PLACE(hubqr_run_reply, clamps_r, 16);
+PLACE(hubqr_run_reply, clamps_q, 20);
+
+SIZE(hubqr_read_reply, 12);
+PLACE(hubqr_read_reply, number, 0);
+PLACE(hubqr_read_reply, job, 4);
+
+SIZE(hubqr_whole_reply, 12);
+PLACE(hubqr_whole_reply, number, 0);
+PLACE(hubqr_whole_reply, heard, 1);
+PLACE(hubqr_whole_reply, clamps_r, 4);
+PLACE(hubqr_whole_reply, clamps_q, 8);
+
+SIZE(hubqr_sample, 4);
+PLACE(hubqr_sample, re, 0);
+PLACE(hubqr_sample, im, 2);
+
+SIZE(hubqr_snapshot, 32);
+PLACE(hubqr_snapshot, samples, 0);
+
+SIZE(hubqr_sums, 1032);
+PLACE(hubqr_sums, count, 0);
+PLACE(hubqr_sums, words, 8);
+
+SIZE(hubqr_add_reply, 1040);
+PLACE(hubqr_add_reply, number, 0);
+PLACE(hubqr_add_reply, sums, 8);
+
+SIZE(hubqr_weight, 16);
+PLACE(hubqr_weight, re, 0);
+PLACE(hubqr_weight, im, 8);
+
+SIZE(hubqr_weights_reply, 136);
+PLACE(hubqr_weights_reply, number, 0);
+PLACE(hubqr_weights_reply, weights, 8);
+
+#endif
