@@ -143,6 +143,15 @@ struct hubqr_run_reply {
 struct hubqr_run_reply hubqr_run(struct hubqr_job job, uint16_t allowance, int32_t *area, size_t area_len)
     HUBQR_REPLY HUBQR_CHANGES(3, 4);
 
+/* Run, by pointer: the job is changed in place, a refusal leaves it as it is. It may not overlap the area. */
+HUBQR_REPLY HUBQR_NONNULL(1) HUBQR_CHANGES(3, 4)
+static inline struct hubqr_run_reply hubqr_run_at(struct hubqr_job *job, uint16_t allowance, int32_t *area, size_t area_len)
+{
+    struct hubqr_run_reply reply = hubqr_run(*job, allowance, area, area_len);
+    *job = reply.job;
+    return reply;
+}
+
 /*
  * Fetch: writes the result record into the first 2,049 bytes of the buffer. The area is only read. Answers the number.
  * Tests, in this order: 3, 5, 6, 7, 8. Test 8 never fails on an area that was loaded and worked in step.

@@ -146,10 +146,29 @@ static void test_diagonal(void)
     CHECK("Run, Fetch and Whole leave what is behind", guards_unchanged());
 }
 
+/* By pointer the job moves on in place, as by value, and stays where Run is refused. */
+static void test_by_pointer(void)
+{
+    make_half_empty();
+    struct hubqr_job by_value = loaded(), job = by_value;
+    while (job.turn < HUBQR_TURNS) {
+        struct hubqr_job before = job;
+        struct hubqr_run_reply ran = hubqr_run_at(&job, 50, area, AREA_LENT);
+        CHECK("Run by pointer", ran.number == HUBQR_ACCEPTED && ran.count == job.turn - before.turn);
+        CHECK("Run by pointer moves the job", is_job(ran.job, job.turn, job.made) && job.made >= before.made);
+    }
+    CHECK("Run by pointer costs as much", is_job(job, 120, 76) && is_job(by_value, 0, 0));
+    job = (struct hubqr_job){5, 6};
+    remember();
+    struct hubqr_run_reply ran = hubqr_run_at(&job, 7, area, AREA_LENT);
+    CHECK("Run by pointer of no job", ran.number == HUBQR_NO_SUCH_JOB && is_job(job, 5, 6) && unchanged());
+}
+
 void test_job(void)
 {
     test_clear_turns();
     test_all_made();
     test_half_empty();
     test_diagonal();
+    test_by_pointer();
 }

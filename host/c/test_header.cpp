@@ -62,11 +62,12 @@ static bool refused()
 {
     auto loaded = hubqr_load(nullptr, 0, area.data(), area.size());
     auto fetched = hubqr_fetch({120, 0}, area.data(), area.size(), buffer.data(), 0);
-    auto ran = hubqr_run({5, 6}, 1, area.data(), area.size());
+    hubqr_job job{5, 6};
+    auto ran = hubqr_run_at(&job, 1, area.data(), area.size());
     record[2] = HUBQR_HEARD_ABOVE;
     auto unheard = hubqr_load(record.data(), record.size(), area.data(), area.size());
     return loaded.number == HUBQR_WRONG_KIND && fetched == HUBQR_BUFFER_TOO_SHORT && ran.number == HUBQR_NO_SUCH_JOB &&
-           is_job(ran.job, 5, 6) && unheard.number == HUBQR_NONE_HEARD;
+           is_job(ran.job, 5, 6) && is_job(job, 5, 6) && unheard.number == HUBQR_NONE_HEARD;
 }
 
 // 1 + 2i times the conjugate of 3 + 4i is 11 + 2i; the samples are 256 times that. The diagonal has 5 and 25, so that antenna 1

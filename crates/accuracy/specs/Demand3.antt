@@ -168,13 +168,13 @@ pub record Kept (l : Load) (calls : List Call) : Type 0 where
   pub no-turn-clamps : (p : Point calls) (k : ℕ) → k < min rotationCount (reached l p .granted)
       → workspaceSaturations (rotationAt k) (workspaceAfter (start l .workspace) k) ≡ noSaturations
   pub no-run-clamps : (r : RunCall) (p : Place (run r) calls) → (reply (found l p) r .«clamps_r» ≡ 0) × (reply (found l p) r .«clamps_q» ≡ 0)
-  -- each accepted Run answers the smaller of 120 and the sum of the allowances of the accepted Runs so far, its own included
+  -- each accepted Run answers as turn number the smaller of 120 and the sum of the allowances of the accepted Runs so far, its own included
   pub turn-number : (r : RunCall) (p : Place (run r) calls) → Accepted (found l p) (run r)
       → reply (found l p) r .job .turn ≡ min rotationCount (found l p .granted + r .budget)
-  -- and, of the turns truly made, those of so many turns from the first on: the same in total however the allowances cut the work
+  -- and as turns made those of so many turns from the first on that are truly made: the same in total however the allowances cut the work
   pub made-total : (r : RunCall) (p : Place (run r) calls) → Accepted (found l p) (run r)
       → reply (found l p) r .job .made ≡ madeAfter (start l .workspace) (min rotationCount (found l p .granted + r .budget))
-  -- which are never more than its turn number, and so 120 at most
+  -- these are never more than the turn number, and so 120 at most
   pub made-few : (r : RunCall) (p : Place (run r) calls) → Accepted (found l p) (run r)
       → (reply (found l p) r .job .made ≤ reply (found l p) r .job .turn) × (reply (found l p) r .job .made ≤ rotationCount)
   -- a Fetch in step is accepted exactly when the allowances make 120 or more and its buffer has 2,049 bytes or more
