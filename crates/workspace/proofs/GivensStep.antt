@@ -106,7 +106,7 @@ module _ (t : Rotation) (l : List ℤ) (ordered : t .column ≤ t .upper) (apart
     skipped : turned (t .column) (gap t) (rowsFrom t l) ≡ rowsFrom t l
     skipped = sym (turn-skipped (t .column) (gap t) (rowsFrom t l) clear .0)
 
-    pub skipped-row : (r k : ℕ) → t .upper ≤ r → wordIn (workspaceTurned t l) r k ≡ wordIn l r k
+    skipped-row : (r k : ℕ) → t .upper ≤ r → wordIn (workspaceTurned t l) r k ≡ wordIn l r k
     skipped-row r k h = in-row r k h ∙ ap (λ (x : List ℤ). getD x ((r - t .upper) * 32 + k) (pos 0)) skipped ∙ sym (was-in-row r k h)
 
     skipped-zero : wordIn (workspaceTurned t l) (t .lower) (t .column) ≡ pos 0

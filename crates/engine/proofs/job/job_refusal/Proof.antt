@@ -10,15 +10,15 @@ cast-if1 c = search needs
 
 returns : tie.Need-returns
 unfolding jobTest
-returns c = simp (lt-ltb _ _ (c .if1 .taken))
+returns c = simp (lt-ltb 120 _ (c .if1 .taken))
 
 returns-2 : tie.Need-returns-2
 unfolding jobTest
-returns-2 c = simp (le-ltb _ _ (c .before .before .if1 .left), lt-ltb _ _ (c .if2 .taken))
+returns-2 c = simp (le-ltb 120 _ (c .before .before .if1 .left), lt-ltb _ _ (c .if2 .taken))
 
 returns-3 : tie.Need-returns-3
 unfolding jobTest
-returns-3 c = simp (le-ltb _ _ (c .before .before .if1 .left), le-ltb _ _ (c .if2 .left))
+returns-3 c = simp (le-ltb 120 _ (c .before .before .if1 .left), le-ltb _ _ (c .if2 .left))
 
 pub job-refusal-spec : {M : Type 1} → statement M
 job-refusal-spec = tie.close (tie.spec cast-if1 returns returns-2 returns-3)

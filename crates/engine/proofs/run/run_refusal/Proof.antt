@@ -7,14 +7,14 @@ use Rattle.engine.proofs.run.run_refusal.Tie as tie
 
 returns : tie.Need-returns
 unfolding runRefusal
-returns c = simp (lt-ltb _ _ (c .if1 .taken))
+returns c = simp (lt-ltb _ 512 (c .if1 .taken))
 
 job-refusal-requires : tie.Need-job-refusal-requires
 job-refusal-requires c κs = search needs
 
 returns-2 : tie.Need-returns-2
 unfolding runRefusal
-returns-2 c = rw (le-ltb _ _ (c .before .if1 .left)) (c .job-refusal .ensures)
+returns-2 c = rw (le-ltb _ 512 (c .before .if1 .left)) (c .job-refusal .ensures)
 
 pub run-refusal-spec : {M : Type 1} → statement M
 run-refusal-spec = tie.close (tie.spec returns job-refusal-requires returns-2)
