@@ -1,6 +1,6 @@
 -- The accuracy theorem, from the loaded workspace to the result, for rotations that meet `GivensStep`.
 -- Assumes nothing.
-use mathlib.Core.Path.{_≡_, refl, sym, ap, _∙_, subst}
+use mathlib.Core.Path.{_≡_, refl, sym, ap, ap₂, _∙_, subst}
 use mathlib.Core.Logic.{_≢_}
 use mathlib.Core.Bool.{Bool, true, false, cond}
 use mathlib.Core.List.{List}
@@ -13,15 +13,15 @@ use borrow.Author.Tests.{lt-ltb, le-ltb, eq-eqb, ne-eqb}
 use lib.IntN.{ℤ, pos, natAbs, _-ℤ_, _*ℤ_, zero-*ℤ, *ℤ-comm}
 use lib.ListN.{getD}
 use Rattle.integers.specs.Within.{Within}
-use Rattle.integers.proofs.Laws.{*ℤ-assoc, abs-*}
-use Rattle.integers.proofs.Sum.{sum-equal, sum-one, sum-abs}
+use Rattle.integers.proofs.Laws.{*ℤ-assoc, swap-inner-mul, abs-*}
+use Rattle.integers.proofs.Sum.{sum-equal, sum-times, sum-one, sum-abs}
 use Rattle.schedule.specs.Schedule.{rotationAt}
 use Rattle.integers.specs.Matrix.{Matrix}
 use Rattle.matrix_record.specs.MatrixRecord.{realEntry}
 use Rattle.matrix_record.proofs.MatrixRecord.{entry-small}
 use Rattle.workspace.specs.Loading.{loadedAt}
-use Rattle.accuracy.specs.Factorization.{Factorization}
-use Rattle.workspace.proofs.Products.{gram, GivensStep}
+use Rattle.accuracy.specs.Factorization.{gram, Factorization}
+use Rattle.workspace.proofs.Products.{GivensStep}
 use Rattle.accuracy.proofs.Gram.{gram-kept, triangular, diagonal-nonneg}
 
 module _ (rec : List ℕ) where
@@ -50,7 +50,7 @@ module _ (rec : List ℕ) where
   -- column 16 + i has one word, in row i
   gram-beside : (i c : ℕ) → i < 16 → gram (loadedAt rec) (16 + i) c ≡ pos (2 ^ 30) *ℤ loadedAt rec i c
   gram-beside i c h =
-      sum-one 16 (λ r. loadedAt rec r (16 + i) *ℤ loadedAt rec r c) i h (λ r d. ap (λ x. x *ℤ loadedAt rec r c) (off-identity r i d) ∙ zero-*ℤ (loadedAt rec r c))
+      sum-one 16 (λ r. loadedAt rec r (16 + i) *ℤ loadedAt rec r c) i h (λ r q d. ap (λ x. x *ℤ loadedAt rec r c) (off-identity r i d) ∙ zero-*ℤ (loadedAt rec r c))
       ∙ ap (λ x. x *ℤ loadedAt rec i c) (on-identity i)
 
   gram-product : (i j : ℕ) → i < 16 → j < 16 → gram (loadedAt rec) (16 + i) j ≡ pos (2 ^ 43) *ℤ realEntry rec i j
@@ -62,6 +62,12 @@ module _ (rec : List ℕ) where
       either : (b : Bool) → pos (2 ^ 30) *ℤ cond b (pos (2 ^ 30)) (pos 0) ≡ cond b (pos (2 ^ 60)) (pos 0)
       either true = refl
       either false = refl
+
+  gram-columns : (i j : ℕ) → i < 16 → j < 16 → gram (loadedAt rec) i j ≡ pos (2 ^ 26) *ℤ gram (realEntry rec) i j
+  gram-columns i j h k = sum-equal 16 scaled ∙ sum-times 16 (pos (2 ^ 26)) (λ r. realEntry rec r i *ℤ realEntry rec r j)
+    where
+      scaled : (r : ℕ) → r < 16 → loadedAt rec r i *ℤ loadedAt rec r j ≡ pos (2 ^ 26) *ℤ (realEntry rec r i *ℤ realEntry rec r j)
+      scaled r q = ap₂ (λ x y. x *ℤ y) (in-matrix r i h) (in-matrix r j k) ∙ swap-inner-mul (pos (2 ^ 13)) (realEntry rec r i) (pos (2 ^ 13)) (realEntry rec r j)
 
   module _ (bytes : (k : ℕ) → getD rec k 0 < 256) where
     -- 16 words of at most 2^28; or the one word 2^30
@@ -104,6 +110,7 @@ module _ (rec : List ℕ) where
         diagonal = diagonal-nonneg W rotated start;
         product = λ i j h k. near (16 + i) j (omega arith) (omega arith) (gram-product i j h k);
         orthogonal = λ i j h k. near (16 + i) (16 + j) (omega arith) (omega arith) (gram-identity i j h);
+        columns = λ i j h k. near i j (omega arith) (omega arith) (gram-columns i j h k);
       }
         where
           near : (a b : ℕ) → a < 32 → b < 32 → {x : ℤ} → gram (loadedAt rec) a b ≡ x → Within (gram (W 120) a b -ℤ x) (2 ^ 44)

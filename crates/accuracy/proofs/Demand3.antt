@@ -16,7 +16,7 @@ use Rattle.rotation.specs.Saturations.{noSaturations}
 use Rattle.schedule.specs.Schedule.{rotationAt}
 use Rattle.matrix_record.specs.MatrixRecord.{realEntry}
 use Rattle.result_record.specs.ResultRecord.{resultByte, resultRecord}
-use Rattle.workspace.specs.Workspace.{R, Q}
+use Rattle.workspace.specs.Workspace.{R, Q, wordIn}
 use Rattle.workspace.specs.Loading.{loadedWords}
 use Rattle.workspace.specs.Rotations.{workspaceSaturations, wordsAfter, saturationsCounted, turnsMade}
 use Rattle.engine.specs.declared.job.Job.{Job}
@@ -25,8 +25,8 @@ use Rattle.engine.specs.Load.{loadOf, loadBy}
 use Rattle.engine.specs.Run.{RunOutcome, nextJob, runDone, runBy, runOf}
 use Rattle.engine.specs.Fetch.{fetchRefusal, fetchBy, fetchOf}
 use Rattle.engine.proofs.Accepted.{load-accepted, fetch-accepted, fetch-passes}
-use Rattle.accuracy.specs.Factorization.{Factorization}
-use Rattle.accuracy.specs.Demand3.{Lent, loaded, other, RunCall, FetchCall, Call, run, fetch, State, wordsOf, lentOf, leftIn, ran, reply, fetched, refusal, Accepted, InStep, moved, after, Load, start, found, reached, EachInStep, workspaceAfter, madeAfter, columnsProduct, Demand3}
+use Rattle.accuracy.specs.Factorization.{gram, Factorization}
+use Rattle.accuracy.specs.Demand3.{Lent, loaded, other, RunCall, FetchCall, Call, run, fetch, State, wordsOf, lentOf, leftIn, ran, reply, fetched, refusal, Accepted, InStep, moved, after, Load, start, found, reached, EachInStep, workspaceAfter, madeAfter, Demand3}
 use Rattle.accuracy.proofs.WorkspaceAfter.{after-none, after-length, after-more, made-none, made-le, made-more, made-uncounted, more-uncounted}
 use Rattle.accuracy.proofs.Loading.{loaded-room, loaded-short, loaded-bounded, loaded-factored}
 use Rattle.accuracy.proofs.Finished.{finished}
@@ -65,11 +65,11 @@ module _ (l : Load) where
 
   -- the products of columns after each of them
   rotations-bounded : (k : ℕ) → k ≤ 120 → (a b : ℕ) → a < 32 → b < 32
-      → Within (columnsProduct (workspaceAfter (first l) k) a b -ℤ columnsProduct (first l) a b) (2 ^ 44)
+      → Within (gram (wordIn (workspaceAfter (first l) k)) a b -ℤ gram (wordIn (first l)) a b) (2 ^ 44)
   rotations-bounded = loaded-bounded (l .bytes) (l .small) (l .lent) lent-room
 
   -- the workspace after all turns
-  done : Factorization (realEntry (l .bytes)) (R (workspaceAfter (first l) 120)) (Q (workspaceAfter (first l) 120))
+  pub done : Factorization (realEntry (l .bytes)) (R (workspaceAfter (first l) 120)) (Q (workspaceAfter (first l) 120))
   done = loaded-factored (l .bytes) (l .small) (l .lent) lent-room
 
 -- ---- what holds between two calls

@@ -11,7 +11,7 @@ use lib.IntN.{ℤ, pos, natAbs, _+ℤ_, _-ℤ_, _*ℤ_, zero-*ℤ, *ℤ-comm}
 use lib.Signed.{_≤ℤ_, ≤ℤ-refl}
 use Rattle.cordic.specs.Norm.{normBound}
 use Rattle.integers.specs.Within.{Within}
-use Rattle.integers.specs.Sum.{sum, total}
+use Rattle.integers.specs.Sum.{sum}
 use Rattle.integers.proofs.Laws.{square-is}
 use Rattle.integers.specs.Square.{square}
 use Rattle.integers.proofs.Within.{within-refl, within-trans, within-common, within-le, within-abs}
@@ -20,17 +20,19 @@ use Rattle.integers.proofs.Claim.{both, Means, each-at}
 use Rattle.schedule.specs.declared.Rotation.{Rotation}
 use Rattle.schedule.specs.Schedule.{rotationAt}
 use Rattle.integers.specs.Matrix.{Matrix}
-use Rattle.workspace.proofs.Products.{gram, pair, pairNorm, GivensStep}
+use Rattle.workspace.proofs.Products.{pair, pairNorm, GivensStep}
+use Rattle.accuracy.specs.Factorization.{gram}
+use Rattle.accuracy.specs.Lengths.{squaredLength}
 use Rattle.schedule.proofs.Clear.{elsewhere, apart, allApart, cleared, raised, fits, done, done-none, done-next, next-fits, rotation-shape, diagonal-raised, below-cleared}
 
 -- ---- a column's squared length
 
-norm-total : (W : Matrix) (a : ℕ) → natAbs (gram W a a) ≡ total 16 (λ r. square (W r a))
-norm-total W a = ap natAbs (sum-equal 16 (λ r q. square-is (W r a)) ∙ sum-total 16 (λ r. square (W r a)))
+pub gram-length : (W : Matrix) (a : ℕ) → gram W a a ≡ pos (squaredLength W a)
+gram-length W a = sum-equal 16 (λ r q. square-is (W r a)) ∙ sum-total 16 (λ r. square (W r a))
 
 -- it bounds the part of two rows
 pair-norm : (W : Matrix) (u l a : ℕ) → u < l → l < 16 → pairNorm W u l a ≤ natAbs (gram W a a)
-pair-norm W u l a h k = le-trans (two-of-total 16 (λ r. square (W r a)) u l h k) (le-of-eq (sym (norm-total W a)))
+pair-norm W u l a h k = le-trans (two-of-total 16 (λ r. square (W r a)) u l h k) (le-of-eq (sym (ap natAbs (gram-length W a))))
 
 pair-comm : (W : Matrix) (u l a b : ℕ) → pair W u l a b ≡ pair W u l b a
 pair-comm W u l a b = ap (λ x. x +ℤ W l a *ℤ W l b) (*ℤ-comm (W u a) (W u b)) ∙ ap (λ x. W u b *ℤ W u a +ℤ x) (*ℤ-comm (W l a) (W l b))

@@ -5,6 +5,7 @@ pub mod WorkspaceAfter
 pub mod Loading
 pub mod Finished
 pub mod Demand3
+pub mod Lengths
 pub mod Possible
 pub mod WholeDemand3
 pub mod Instalments

@@ -10,10 +10,9 @@ use Rattle.matrix_record.specs.MatrixRecord.{realEntry}
 use Rattle.workspace.specs.Workspace.{R, Q, wordIn}
 use Rattle.workspace.specs.Loading.{loadedAt, loadedWord, loadedWords}
 use Rattle.workspace.proofs.Filled.{loaded-at}
-use Rattle.workspace.proofs.Products.{gram}
 use Rattle.accuracy.proofs.Accurate.{start, accurate}
-use Rattle.accuracy.specs.Factorization.{Factorization}
-use Rattle.accuracy.specs.Demand3.{workspaceAfter, columnsProduct}
+use Rattle.accuracy.specs.Factorization.{gram, Factorization}
+use Rattle.accuracy.specs.Demand3.{workspaceAfter}
 use Rattle.accuracy.proofs.Gram.{gram-kept}
 use Rattle.accuracy.proofs.WorkspaceAfter.{after-none, after-rotated}
 
@@ -30,8 +29,7 @@ module _ (rec : List ℕ) (bytes : (k : ℕ) → getD rec k 0 < 256) (lent : Lis
 
   -- the products of columns are kept after each rotation
   pub loaded-bounded : (k : ℕ) → k ≤ 120 → (a b : ℕ) → a < 32 → b < 32
-      → Within (columnsProduct (workspaceAfter (loadedWords rec lent) k) a b -ℤ columnsProduct (loadedWords rec lent) a b) (2 ^ 44)
-  unfolding columnsProduct
+      → Within (gram (wordIn (workspaceAfter (loadedWords rec lent) k)) a b -ℤ gram (wordIn (loadedWords rec lent)) a b) (2 ^ 44)
   loaded-bounded k h a b p q =
       subst (λ (x : List ℤ). Within (gram (wordIn (workspaceAfter (loadedWords rec lent) k)) a b -ℤ gram (wordIn x) a b) (2 ^ 44)) (after-none (loadedWords rec lent) loaded-room)
       (gram-kept (λ (k : ℕ). wordIn (workspaceAfter (loadedWords rec lent) k)) (after-rotated (loadedWords rec lent) loaded-room) loaded-short k h a b p q)

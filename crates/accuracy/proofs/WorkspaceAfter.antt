@@ -12,7 +12,8 @@ use Rattle.schedule.specs.Schedule.{rotationAt}
 use Rattle.schedule.proofs.Clear.{rotation-shape}
 use Rattle.workspace.specs.Workspace.{wordIn}
 use Rattle.workspace.specs.Rotations.{workspaceTurned, workspaceSaturations, wordsAfter, saturationsCounted, turnsMade}
-use Rattle.workspace.proofs.Products.{gram, GivensStep}
+use Rattle.workspace.proofs.Products.{GivensStep}
+use Rattle.accuracy.specs.Factorization.{gram}
 use Rattle.workspace.proofs.GivensStep.{givens-step, workspace-uncounted}
 use Rattle.workspace.proofs.WordsAfter.{words-length, words-more, turns-made-more, turns-made-le}
 use Rattle.accuracy.specs.Demand3.{workspaceAfter, madeAfter}

@@ -5,10 +5,9 @@ use mathlib.Core.Path.{_≡_}
 use mathlib.Core.Logic.{_↔_}
 use mathlib.Core.List.{List, _++_}
 use Prim.Native.Nat.{ℕ, zero, suc, _+_, _^_, _≤_, _<_, min}
-use lib.IntN.{ℤ, _-ℤ_, _*ℤ_}
+use lib.IntN.{ℤ, _-ℤ_}
 use lib.ListN.{length, getD, drop}
 use Rattle.integers.specs.Within.{Within}
-use Rattle.integers.specs.Sum.{sum}
 use Rattle.lists.specs.Histories.{afterAll, Place, Point, Each}
 use Rattle.rotation.specs.Saturations.{noSaturations}
 use Rattle.schedule.specs.Schedule.{rotationCount, rotationAt}
@@ -21,7 +20,7 @@ use Rattle.engine.specs.declared.run.RunReply.{RunReply}
 use Rattle.engine.specs.Load.{loadRefusal, loadOf}
 use Rattle.engine.specs.Run.{RunOutcome, runRefusal, runOf}
 use Rattle.engine.specs.Fetch.{fetchRefusal, fetchOf}
-use Rattle.accuracy.specs.Factorization.{Factorization}
+use Rattle.accuracy.specs.Factorization.{gram, Factorization}
 
 -- ---- a call
 
@@ -158,10 +157,6 @@ workspaceAfter l k = wordsAfter 0 k l
 unfoldable pub madeAfter : List ℤ → ℕ → ℕ
 madeAfter l k = turnsMade 0 k l
 
--- the sum of products of columns a and b, over the 16 rows; of a column with itself, the square of its length
-unfoldable pub columnsProduct : List ℤ → ℕ → ℕ → ℤ
-columnsProduct l a b = sum 16 (λ i. wordIn l i a *ℤ wordIn l i b)
-
 -- what is promised of a list of calls
 pub record Kept (l : Load) (calls : List Call) : Type 0 where
   -- no word is ever clamped: step 4 counts none on either side in any turn, and every Run, a refused one too, answers 0 clamps in R and 0 in Q
@@ -184,7 +179,7 @@ pub record Kept (l : Load) (calls : List Call) : Type 0 where
   pub words : (p : Point calls) → reached l p .workspace ≡ workspaceAfter (start l .workspace) (min rotationCount (reached l p .granted))
   -- after each of the turns so far, the sum of products of any two columns lies within 2^44 of that of the loaded words
   pub bounded : (p : Point calls) (k : ℕ) → k ≤ min rotationCount (reached l p .granted) → (a b : ℕ) → a < 32 → b < 32
-      → Within (columnsProduct (workspaceAfter (start l .workspace) k) a b -ℤ columnsProduct (start l .workspace) a b) (2 ^ 44)
+      → Within (gram (wordIn (workspaceAfter (start l .workspace) k)) a b -ℤ gram (wordIn (start l .workspace)) a b) (2 ^ 44)
   -- once the allowances make 120 or more, the matrix is worked to the end
   pub factored : (p : Point calls) → rotationCount ≤ reached l p .granted
       → Factorization (realEntry (l .bytes)) (R (reached l p .workspace)) (Q (reached l p .workspace))

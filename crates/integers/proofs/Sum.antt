@@ -1,4 +1,4 @@
--- Sums over the rows: equal terms, the first term, negatives, one row taken out, two rows taken out, and bounds.
+-- Sums over the rows: equal terms, the first term, negatives, a common factor, one row taken out, two rows taken out, and bounds.
 -- Assumes nothing.
 use mathlib.Core.Path.{_≡_, refl, sym, ap, _∙_, subst}
 use mathlib.Core.Logic.{_≢_, _⊎_, inl, inr}
@@ -9,9 +9,9 @@ use native.Mathlib.Decide.{ℕ-discrete}
 use native.Mathlib.Omega.{arith}
 use lib.Dec.{eqb}
 use borrow.Author.Tests.{eq-eqb, ne-eqb}
-use lib.IntN.{ℤ, pos, negℤ, natAbs, _+ℤ_, +ℤ-assoc, +ℤ-comm, +ℤ-idl, +ℤ-idr, negℤ-+ℤ}
+use lib.IntN.{ℤ, pos, negℤ, natAbs, _+ℤ_, _*ℤ_, +ℤ-assoc, +ℤ-comm, +ℤ-idl, +ℤ-idr, negℤ-+ℤ, *ℤ-zero}
 use Rattle.integers.specs.Sum.{sum, total}
-use Rattle.integers.proofs.Laws.{swap-right, abs-+}
+use Rattle.integers.proofs.Laws.{swap-right, *ℤ-distl, abs-+}
 
 -- ---- equal terms
 
@@ -38,6 +38,12 @@ pub sum-neg : (n : ℕ) (f : ℕ → ℤ) → sum n (λ r. negℤ (f r)) ≡ neg
 unfolding sum
 sum-neg zero f = refl
 sum-neg (suc n) f = ap (λ x. x +ℤ negℤ (f n)) (sum-neg n f) ∙ sym (negℤ-+ℤ (sum n f) (f n))
+
+-- a factor of each term
+pub sum-times : (n : ℕ) (c : ℤ) (f : ℕ → ℤ) → sum n (λ r. c *ℤ f r) ≡ c *ℤ sum n f
+unfolding sum
+sum-times zero c f = sym (*ℤ-zero c)
+sum-times (suc n) c f = ap (λ x. x +ℤ c *ℤ f n) (sum-times n c f) ∙ sym (*ℤ-distl c (sum n f) (f n))
 
 -- ---- a row taken out
 
@@ -73,15 +79,15 @@ sum-without (suc n) f u h = pick (eq-or-lt-of-le (le-of-suc-le-suc h)) (sum-with
         ∙ ap (λ x. sum n (without u f) +ℤ x +ℤ f u) (sym (without-other u f n (λ q. omega arith)))
 
 -- only one row counts
-pub sum-one : (n : ℕ) (f : ℕ → ℤ) (u : ℕ) → u < n → ((r : ℕ) → r ≢ u → f r ≡ pos 0) → sum n f ≡ f u
+pub sum-one : (n : ℕ) (f : ℕ → ℤ) (u : ℕ) → u < n → ((r : ℕ) → r < n → r ≢ u → f r ≡ pos 0) → sum n f ≡ f u
 sum-one n f u h rest = sum-without n f u h ∙ ap (λ x. x +ℤ f u) (sum-zero n gone) ∙ +ℤ-idl (f u)
   where
-    either : (r : ℕ) → Dec (r ≡ u) → without u f r ≡ pos 0
-    either r (yes e) = subst (λ (k : ℕ). without u f k ≡ pos 0) (sym e) (without-here u f)
-    either r (no d) = without-other u f r d ∙ rest r d
+    either : (r : ℕ) → r < n → Dec (r ≡ u) → without u f r ≡ pos 0
+    either r l (yes e) = subst (λ (k : ℕ). without u f k ≡ pos 0) (sym e) (without-here u f)
+    either r l (no d) = without-other u f r d ∙ rest r l d
 
     gone : (r : ℕ) → r < n → without u f r ≡ pos 0
-    gone r l = either r (ℕ-discrete r u)
+    gone r l = either r l (ℕ-discrete r u)
 
 -- ---- two rows taken out
 

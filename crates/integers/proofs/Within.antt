@@ -10,7 +10,7 @@ use mir.Syntax.{Width}
 use mir.Val.{SFits, hbits}
 use Rattle.integers.specs.Within.{Within}
 use Rattle.integers.proofs.Laws.{abs-neg, abs-*, abs-+, abs-sub-le}
-use Rattle.integers.proofs.Ring.{_⊕_, _⊝_, _≐_, ring}
+use Rattle.integers.proofs.Ring.{_⊕_, _⊝_, neg, _≐_, ring}
 
 pub within : {x : ℤ} {n : ℕ} → natAbs x ≤ n → Within x n
 within h = record { abs = h }
@@ -40,6 +40,9 @@ within-refl x = within (le-of-eq (ap natAbs (+ℤ-invr x)))
 
 pub within-trans : (x y z : ℤ) {a b : ℕ} → Within (x -ℤ y) a → Within (y -ℤ z) b → Within (x -ℤ z) (a + b)
 within-trans x y z {a} {b} h k = within-as (within-+ h k) (ring (x ∷ y ∷ z ∷ []) (λ x y z. x ⊝ z ≐ (x ⊝ y) ⊕ (y ⊝ z)) tt) (le-refl (a + b))
+
+pub within-swap : (x y : ℤ) {b : ℕ} → Within (x -ℤ y) b → Within (y -ℤ x) b
+within-swap x y {b} h = within-as (within-neg h) (ring (x ∷ y ∷ []) (λ x y. y ⊝ x ≐ neg (x ⊝ y)) tt) (le-refl b)
 
 -- the same number added to both
 pub within-common : (s x y : ℤ) {b : ℕ} → Within (x -ℤ y) b → Within ((s +ℤ x) -ℤ (s +ℤ y)) b

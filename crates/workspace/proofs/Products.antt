@@ -1,4 +1,4 @@
--- The Gram sums of the columns of a workspace, which is a function of row and column here, and what a Givens rotation keeps of them. Assumes nothing.
+-- Products of the columns of a workspace, which is a function of row and column here, in two rows, and what a Givens rotation keeps of them. Assumes nothing.
 use mathlib.Core.Path.{_≡_}
 use mathlib.Core.Logic.{_≢_}
 use Prim.Native.Nat.{ℕ, _+_, _*_, _^_, _≤_, _<_}
@@ -6,16 +6,11 @@ use lib.IntN.{ℤ, pos, _+ℤ_, _-ℤ_, _*ℤ_}
 use lib.Signed.{_≤ℤ_}
 use Rattle.cordic.specs.Norm.{normBound}
 use Rattle.integers.specs.Within.{Within}
-use Rattle.integers.specs.Sum.{sum}
 use Rattle.integers.specs.Square.{square}
 use Rattle.schedule.specs.declared.Rotation.{Rotation}
 use Rattle.integers.specs.Matrix.{Matrix}
 
--- the Gram sum of columns a and b: the sum of their products over the 16 rows
-abbrev pub gram : Matrix → ℕ → ℕ → ℤ
-gram W a b = sum 16 (λ r. W r a *ℤ W r b)
-
--- the part of it that two rows hold
+-- the part of the Gram sum of columns a and b that two rows hold
 abbrev pub pair : Matrix → ℕ → ℕ → ℕ → ℕ → ℤ
 pair W u l a b = W u a *ℤ W u b +ℤ W l a *ℤ W l b
 
