@@ -3,8 +3,11 @@
 use crate::area::WorkArea;
 use crate::matrix::{RealMatrix, REAL_SIZE};
 
-/// The bound on every error: 2^44.
+/// The bound on every sum of products: 2^44.
 pub const BOUND: i128 = 1 << 44;
+
+/// The bound on R's first diagonal word, whose square has the bound above: 2^22.
+pub const WORD_BOUND: i128 = 1 << 22;
 
 /// The largest errors over all places of a worked matrix.
 #[derive(Debug, Clone, Copy, Default, PartialEq, Eq)]
@@ -15,18 +18,25 @@ pub struct Errors {
     pub rows: i128,
     /// Sums of products of two columns of R against 2^26 times the input's.
     pub columns: i128,
+    /// R's first diagonal word against 2^13 times the length of the input's first column: the
+    /// smallest whole number that is not below the difference.
+    pub first_word: i128,
 }
 
 impl Errors {
     /// The errors of the R and Q that an area holds for an input made real.
     pub fn of(input: &RealMatrix, area: &WorkArea) -> Self {
-        let mut errors = Errors::default();
+        let mut errors = Errors {
+            first_word: first_word_error(input, area),
+            ..Errors::default()
+        };
         for i in 0..REAL_SIZE {
             for j in 0..REAL_SIZE {
                 errors = errors.max(Errors {
                     product: product_error(input, area, i, j),
                     rows: rows_error(area, i, j),
                     columns: columns_error(input, area, i, j),
+                    ..errors
                 });
             }
         }
@@ -39,10 +49,17 @@ impl Errors {
             product: self.product.max(other.product),
             rows: self.rows.max(other.rows),
             columns: self.columns.max(other.columns),
+            first_word: self.first_word.max(other.first_word),
         }
     }
 
-    /// The errors as shares of the bound: the product, the rows of Q, the columns of R.
+    /// Whether all of them are within their bounds.
+    pub fn are_within(self) -> bool {
+        let sums = [self.product, self.rows, self.columns];
+        sums.iter().all(|&error| error <= BOUND) && self.first_word <= WORD_BOUND
+    }
+
+    /// The errors of the sums as shares of their bound: the product, the rows of Q, the columns of R.
     pub fn shares(self) -> [f64; 3] {
         [self.product, self.rows, self.columns].map(|error| error as f64 / BOUND as f64)
     }
@@ -65,6 +82,15 @@ fn columns_error(input: &RealMatrix, area: &WorkArea, i: usize, j: usize) -> i12
     (sum - exact).abs()
 }
 
+/// A length is a square root, so the whole numbers on either side of it are compared.
+fn first_word_error(input: &RealMatrix, area: &WorkArea) -> i128 {
+    let square = sum_of_products(|k| (input[k][0], input[k][0])) << 26;
+    let below = square.isqrt();
+    let above = below + i128::from(below * below < square);
+    let word = i128::from(area.r(0, 0));
+    (word - below).max(above - word)
+}
+
 fn sum_of_products(factors: impl Fn(usize) -> (i32, i32)) -> i128 {
     (0..REAL_SIZE)
         .map(|k| {
@@ -81,10 +107,61 @@ mod tests {
     use crate::matrix::{Complex, Matrix};
 
     #[test]
-    fn a_loaded_area_has_no_error() {
+    fn the_sums_of_a_loaded_area_have_no_error() {
         let input = Matrix::from_fn(|i, j| Complex::new(-32768 + i as i16, j as i16)).to_real();
         let errors = Errors::of(&input, &WorkArea::loaded(&input));
-        assert_eq!(errors, Errors::default());
+        assert_eq!([errors.product, errors.rows, errors.columns], [0; 3]);
+    }
+
+    /// The parts 3 and 4 make a column of length 5; 1 and 1 make one of no whole length.
+    #[test]
+    fn the_first_word_is_compared_with_a_length() {
+        let error = |re, im, word| {
+            let element = |i, j| if i + j == 0 { (re, im) } else { (0, 0) };
+            let input = Matrix::from_fn(|i, j| {
+                let (re, im) = element(i, j);
+                Complex::new(re, im)
+            });
+            let mut area = WorkArea::loaded(&input.to_real());
+            area.set_word(0, 0, word);
+            Errors::of(&input.to_real(), &area).first_word
+        };
+        assert_eq!(error(3, 4, 5 << 13), 0);
+        assert_eq!(error(3, 4, (5 << 13) + 7), 7);
+        assert_eq!(error(3, 4, (5 << 13) - 7), 7);
+        // 2^13 times the root of 2 is 11,585.2
+        assert_eq!([11_585, 11_586].map(|word| error(1, 1, word)), [1, 1]);
+        assert_eq!([11_580, 11_590].map(|word| error(1, 1, word)), [6, 5]);
+    }
+
+    #[test]
+    fn each_error_has_its_bound() {
+        let at = Errors {
+            product: BOUND,
+            rows: BOUND,
+            columns: BOUND,
+            first_word: WORD_BOUND,
+        };
+        assert!(at.are_within());
+        let beyond = [
+            Errors {
+                product: BOUND + 1,
+                ..at
+            },
+            Errors {
+                rows: BOUND + 1,
+                ..at
+            },
+            Errors {
+                columns: BOUND + 1,
+                ..at
+            },
+            Errors {
+                first_word: WORD_BOUND + 1,
+                ..at
+            },
+        ];
+        assert!(beyond.iter().all(|errors| !errors.are_within()));
     }
 
     #[test]
@@ -114,7 +191,7 @@ mod tests {
         let errors = Errors {
             product: 1 << 44,
             rows: 1 << 43,
-            columns: 0,
+            ..Errors::default()
         };
         assert_eq!(errors.shares(), [1.0, 0.5, 0.0]);
     }

@@ -7,7 +7,7 @@ use std::sync::atomic::{AtomicUsize, Ordering};
 use std::thread;
 
 use common::{Both, Case};
-use reference::accuracy::{Errors, BOUND};
+use reference::accuracy::Errors;
 use reference::area::AREA_WORDS;
 use reference::cases::{edges, Kind};
 use reference::clamps::Clamps;
@@ -64,13 +64,13 @@ impl Tally {
         let Tally {
             name,
             matrices,
+            worst: Errors { first_word, .. },
             made,
             most,
-            ..
         } = self;
         let skipped = u64::from(TURNS) * matrices - made;
         println!(
-            "{name:<18}{matrices:>9}{product:>14.6}{rows:>14.6}{columns:>14.6}\
+            "{name:<18}{matrices:>9}{product:>14.6}{rows:>14.6}{columns:>14.6}{first_word:>12}\
              {made:>9}{skipped:>9}{most:>6}"
         );
     }
@@ -89,10 +89,21 @@ fn worked_matrices_agree_and_are_accurate() {
     assert_eq!(all.matrices, MATRICES);
     assert_eq!(all.most, TURNS, "no matrix cost all turns");
     tallies.push(all);
-    println!("\nThe largest error seen, as a share of 2^44, and the turns made and skipped:");
     println!(
-        "{:<18}{:>9}{:>14}{:>14}{:>14}{:>9}{:>9}{:>6}",
-        "kind", "matrices", "Q times R", "rows of Q", "columns of R", "made", "skipped", "most"
+        "\nThe largest error seen, as a share of 2^44, of R's first word, and the turns made and \
+         skipped:"
+    );
+    println!(
+        "{:<18}{:>9}{:>14}{:>14}{:>14}{:>12}{:>9}{:>9}{:>6}",
+        "kind",
+        "matrices",
+        "Q times R",
+        "rows of Q",
+        "columns of R",
+        "first word",
+        "made",
+        "skipped",
+        "most"
     );
     tallies.iter().for_each(Tally::print);
 }
@@ -105,7 +116,7 @@ fn all_parts_32767_break_bounds_of_2_to_the_37() {
     let mut both = Both::new(Case::new("the loudest matrix", 0, 0, &record));
     both.lend(AREA_WORDS, RESULT_RECORD);
     assert_eq!(both.whole(&record).number, 0);
-    let errors = check_result(&both, &matrix);
+    let errors = both.errors();
     assert!(errors.product > 1 << 37 && errors.rows > 1 << 37 && errors.columns > 1 << 37);
     assert!(both.area().r(15, 15) < 0);
 }
@@ -163,8 +174,11 @@ fn compare_matrix(seed: u64, number: u64, matrix: &Matrix) -> (Errors, u32) {
     let reply = both.load(&record);
     both.require(reply.number == 0, "Load refused a matrix that was heard");
     let job = work_in_instalments(&mut both, &mut random);
-    let errors = check_result(&both, matrix);
-    let fetched = both.fetched();
+    let (errors, fetched) = (both.errors(), both.fetched());
+    both.require(
+        fetched == write_result(&both.area()),
+        "the fetched record is not that of the area",
+    );
     check_reading_back(&case, &fetched);
     check_whole(&case, &record, &fetched);
     check_one_run(&case, &record, job);
@@ -231,33 +245,6 @@ fn refused_call(both: &mut Both, job: Job, random: &mut Random) {
     };
     both.lend(words, bytes);
     both.require(number != 0, "a call that had to be refused was accepted");
-}
-
-fn check_result(both: &Both, matrix: &Matrix) -> Errors {
-    let area = both.area();
-    both.require(area.is_upper_triangular(), "R is not upper triangular");
-    both.require(
-        area.has_nonnegative_diagonal(),
-        "one of R's first 15 diagonal words is negative",
-    );
-    both.require(
-        both.fetched() == write_result(&area),
-        "the fetched record is not that of the area",
-    );
-    let errors = Errors::of(&matrix.to_real(), &area);
-    both.require(
-        errors.product <= BOUND,
-        "Q times R is further than 2^44 from the input",
-    );
-    both.require(
-        errors.rows <= BOUND,
-        "Q is further than 2^44 from orthogonal",
-    );
-    both.require(
-        errors.columns <= BOUND,
-        "products of R's columns are further than 2^44 from the input's",
-    );
-    errors
 }
 
 /// The record reads back to what was fetched, and is written again byte for byte.

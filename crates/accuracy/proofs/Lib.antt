@@ -6,6 +6,7 @@ pub mod Loading
 pub mod Finished
 pub mod Demand3
 pub mod Lengths
+pub mod Antennas
 pub mod Possible
 pub mod WholeDemand3
 pub mod Instalments

@@ -1,17 +1,17 @@
--- Sums over the rows: equal terms, the first term, negatives, a common factor, one row taken out, two rows taken out, and bounds.
+-- Sums over the rows: equal terms, the first term, negatives, a common factor, two sums in one, one row taken out, two rows taken out, and bounds.
 -- Assumes nothing.
 use mathlib.Core.Path.{_≡_, refl, sym, ap, _∙_, subst}
 use mathlib.Core.Logic.{_≢_, _⊎_, inl, inr}
 use mathlib.Core.Bool.{Bool, cond}
 use Prim.Native.Nat.{ℕ, zero, suc, _+_, _*_, _≤_, _<_}
-use native.Mathlib.Nat.{le-refl, le-trans, eq-or-lt-of-le, le-of-suc-le-suc, not-suc-le-zero}
+use native.Mathlib.Nat.{add-zero, add-suc, le-refl, le-trans, eq-or-lt-of-le, le-of-suc-le-suc, not-suc-le-zero}
 use native.Mathlib.Decide.{ℕ-discrete}
 use native.Mathlib.Omega.{arith}
 use lib.Dec.{eqb}
 use borrow.Author.Tests.{eq-eqb, ne-eqb}
 use lib.IntN.{ℤ, pos, negℤ, natAbs, _+ℤ_, _*ℤ_, +ℤ-assoc, +ℤ-comm, +ℤ-idl, +ℤ-idr, negℤ-+ℤ, *ℤ-zero}
 use Rattle.integers.specs.Sum.{sum, total}
-use Rattle.integers.proofs.Laws.{swap-right, *ℤ-distl, abs-+}
+use Rattle.integers.proofs.Laws.{swap-right, swap-left, *ℤ-distl, abs-+}
 
 -- ---- equal terms
 
@@ -44,6 +44,24 @@ pub sum-times : (n : ℕ) (c : ℤ) (f : ℕ → ℤ) → sum n (λ r. c *ℤ f 
 unfolding sum
 sum-times zero c f = sym (*ℤ-zero c)
 sum-times (suc n) c f = ap (λ x. x +ℤ c *ℤ f n) (sum-times n c f) ∙ sym (*ℤ-distl c (sum n f) (f n))
+
+-- two sums in one, and one sum cut in two
+pub sum-plus : (n : ℕ) (f g : ℕ → ℤ) → sum n (λ r. f r +ℤ g r) ≡ sum n f +ℤ sum n g
+unfolding sum
+sum-plus zero f g = refl
+sum-plus (suc n) f g =
+    ap (λ x. x +ℤ (f n +ℤ g n)) (sum-plus n f g) ∙ +ℤ-assoc (sum n f) (sum n g) (f n +ℤ g n)
+    ∙ ap (λ x. sum n f +ℤ x) (swap-left (sum n g) (f n) (g n)) ∙ sym (+ℤ-assoc (sum n f) (f n) (sum n g +ℤ g n))
+
+pub sum-append : (m n : ℕ) (f : ℕ → ℤ) → sum (m + n) f ≡ sum m f +ℤ sum n (λ r. f (m + r))
+unfolding sum
+sum-append m zero f = ap (λ (k : ℕ). sum k f) (add-zero m) ∙ sym (+ℤ-idr (sum m f))
+sum-append m (suc n) f =
+    ap (λ (k : ℕ). sum k f) (add-suc m n) ∙ ap (λ x. x +ℤ f (m + n)) (sum-append m n f)
+    ∙ +ℤ-assoc (sum m f) (sum n (λ r. f (m + r))) (f (m + n))
+
+pub sum-halves : (n : ℕ) (f : ℕ → ℤ) → sum (n + n) f ≡ sum n (λ r. f r +ℤ f (n + r))
+sum-halves n f = sum-append n n f ∙ sym (sum-plus n f (λ r. f (n + r)))
 
 -- ---- a row taken out
 

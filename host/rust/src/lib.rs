@@ -17,6 +17,13 @@
 //! [`Q_ONE`] for one. R is upper triangular, its first fifteen diagonal words are not negative, and
 //! Q times R is 2^43 times the 16-bit input, within 2^44.
 //!
+//! R without Q has the lengths and angles of the input's columns: for any two columns the sum of the
+//! products of their words is 2^26 times the same sum over the real input, within 2^44. Antenna k
+//! has columns k and 8 + k. So the product of antennas i and j, the sum over the 8 rows of the
+//! conjugate of antenna i's element times antenna j's, is found in R as well: times 2^26, and within
+//! 2^44, its real part is the sum for columns i and j, and its imaginary part that for columns 8 + i
+//! and j.
+//!
 //! A **turn** makes the lower leading word of two rows 0. Where that word is 0 already and the upper
 //! leading word is 0 or more, the turn is clear: it is skipped, and leaves both rows as they are.
 //!

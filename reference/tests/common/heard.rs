@@ -1,9 +1,9 @@
 //! Load and Whole of one record, held to the antennas that are heard.
 
-use reference::accuracy::{Errors, BOUND};
+use reference::accuracy::Errors;
 use reference::clamps::Clamps;
 use reference::job::Job;
-use reference::records::{parse_matrix, MATRIX_RECORD};
+use reference::records::MATRIX_RECORD;
 use reference::replies::{LoadReply, WholeReply};
 
 use super::{Both, Case};
@@ -64,19 +64,8 @@ impl Heard {
             both.require(same, "a refused call changed something");
             self.refused += 1;
         } else {
-            self.worst = self.worst.max(errors(&both, record));
+            self.worst = self.worst.max(both.errors());
             self.accepted += 1;
         }
     }
-}
-
-/// The errors of a worked record, which lie within the bound.
-fn errors(both: &Both, record: &[u8]) -> Errors {
-    let matrix = parse_matrix(record).expect("both calls accepted it");
-    let errors = Errors::of(&matrix.to_real(), &both.area());
-    let within = [errors.product, errors.rows, errors.columns].map(|error| error <= BOUND);
-    both.require(within == [true; 3], &format!("inaccurate: {errors:?}"));
-    let triangular = both.area().is_upper_triangular();
-    both.require(triangular, "R is not upper triangular");
-    errors
 }

@@ -11,9 +11,11 @@ pub mod sums;
 mod twin;
 pub mod weights;
 pub mod words;
+mod worked;
 
 use std::fmt::{self, Debug, Display};
 
+use reference::accuracy::Errors;
 use reference::area::{WorkArea, AREA_WORDS};
 use reference::calls;
 use reference::clamps::Clamps;
@@ -22,6 +24,7 @@ use reference::random::Random;
 use reference::records::RESULT_RECORD;
 use reference::replies::{FetchReply, LoadReply, ReadReply, RunReply, WholeReply};
 use twin::Twin;
+use worked::Loaded;
 
 /// Words and bytes that can be lent beyond what the calls use.
 pub const SPARE: usize = 8;
@@ -79,6 +82,10 @@ pub struct Both {
     filled: Option<[i32; AREA_WORDS]>,
     area: Twin<i32>,
     buffer: Twin<u8>,
+    /// The matrix that the areas were loaded with, while each accepted call since was in step.
+    loaded: Option<Loaded>,
+    /// The errors of the matrix in the areas, once it is worked to the end.
+    worked: Option<Errors>,
 }
 
 impl Both {
@@ -93,6 +100,8 @@ impl Both {
             filled: None,
             area,
             buffer,
+            loaded: None,
+            worked: None,
         };
         both.lend(AREA_WORDS, RESULT_RECORD);
         both
@@ -113,6 +122,7 @@ impl Both {
     pub fn fill_area(&mut self, words: &[i32; AREA_WORDS]) {
         self.area.fill(words);
         self.filled = Some(*words);
+        (self.loaded, self.worked) = (None, None);
     }
 
     /// The engine's area as rows and columns.
@@ -132,6 +142,9 @@ impl Both {
         let reference = calls::load(record, self.area.reference());
         self.compare("Load", engine, reference);
         self.require(lent == record, "Load changed the record");
+        if reference.number == 0 {
+            (self.loaded, self.worked) = (Some(Loaded::new(record)), None);
+        }
         reference
     }
 
@@ -150,6 +163,10 @@ impl Both {
             );
             let within = next.turn == job.turn + count && next.turn <= 120;
             self.require(within && next.made <= next.turn, "no such job was answered");
+            self.loaded = self.loaded.and_then(|loaded| loaded.after(job, next));
+            if let Some(loaded) = self.loaded.filter(|_| next.is_finished() && count > 0) {
+                self.require_worked(loaded);
+            }
         } else {
             let nothing = next == job && count == 0 && engine.clamps == Clamps::NONE;
             self.require(nothing, "a refused Run answered more than its job");
@@ -170,6 +187,9 @@ impl Both {
         let reference = calls::read(record, self.area.reference());
         self.compare("Read", engine, reference);
         self.require(lent == record, "Read changed the record");
+        if reference.number == 0 {
+            (self.loaded, self.worked) = (None, None);
+        }
         reference
     }
 
@@ -179,6 +199,10 @@ impl Both {
         let reference = calls::whole(record, self.area.reference(), self.buffer.reference());
         self.compare("Whole", engine, reference);
         self.require(lent == record, "Whole changed the record");
+        if reference.number == 0 {
+            self.loaded = None;
+            self.require_worked(Loaded::new(record));
+        }
         reference
     }
 

@@ -1,7 +1,7 @@
 //! The whole way: snapshots of plane waves and noise are added up, written, loaded, worked in
 //! instalments and fetched.
 
-use reference::accuracy::{Errors, BOUND};
+use reference::accuracy::Errors;
 use reference::clamps::Clamps;
 use reference::covariance::Snapshot;
 use reference::matrix::{Complex, ANTENNAS};
@@ -112,12 +112,7 @@ fn factor(record: &[u8], case: Case) -> Errors {
     at_once.require(reply.number == 0, "Whole refused a written record");
     let same = at_once.fetched() == both.fetched();
     both.require(same, "Whole and the instalments differ");
-
-    let matrix = parse_matrix(record).expect("Load accepted it");
-    let errors = Errors::of(&matrix.to_real(), &both.area());
-    let within = [errors.product, errors.rows, errors.columns].map(|error| error <= BOUND);
-    both.require(within == [true; 3], &format!("inaccurate: {errors:?}"));
-    errors
+    both.errors()
 }
 
 /// The squares of the amplitudes over 65,536 are 748, 137 and 12; noise adds 3 to what every

@@ -2,8 +2,9 @@
 
 use std::ops::Range;
 
-/// The octaves that are drawn: errors from 2^33 to 2^45.
-pub const OCTAVES: Range<i32> = 33..45;
+/// The octaves that are drawn: errors from 2^20, since those of R's columns are small where the
+/// matrix is, to 2^45, beyond the limit.
+pub const OCTAVES: Range<i32> = 20..45;
 
 /// Bins of one octave.
 pub const BINS: usize = 8;
@@ -37,21 +38,21 @@ mod tests {
 
     #[test]
     fn errors_fall_into_their_bins() {
-        assert_eq!(bin(1 << 33), 0);
-        assert_eq!(bin(1 << 36), 3 * BINS);
-        assert_eq!(bin((1 << 44) - 1), 11 * BINS - 1);
+        assert_eq!(bin(1 << 20), 0);
+        assert_eq!(bin(1 << 36), 16 * BINS);
+        assert_eq!(bin((1 << 44) - 1), 24 * BINS - 1);
     }
 
     #[test]
     fn the_ends_take_what_lies_beyond() {
         assert_eq!(bin(0), 0);
-        assert_eq!(bin(1 << 60), 12 * BINS - 1);
+        assert_eq!(bin(1 << 60), 25 * BINS - 1);
     }
 
     #[test]
     fn the_fullest_bin_has_height_one() {
         let heights = heights(&[1 << 34, 1 << 34, 1 << 40]);
-        assert_eq!(heights[BINS], 1.0);
-        assert_eq!(heights[7 * BINS], 0.5);
+        assert_eq!(heights[14 * BINS], 1.0);
+        assert_eq!(heights[20 * BINS], 0.5);
     }
 }

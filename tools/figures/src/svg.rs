@@ -81,7 +81,7 @@ impl Svg {
 
 /// Raises the digits and points that follow a `^`, and goes back to the line behind them. A blank
 /// there is written as a distance, since some programs drop it.
-fn raised(text: &str) -> String {
+pub fn raised(text: &str) -> String {
     let mut parts = text.split('^');
     let mut markup = parts.next().unwrap_or_default().to_string();
     for part in parts {

@@ -104,6 +104,21 @@ fn the_columns_of_r_are_compared_in_pairs() {
     assert_eq!(outcome.status, 1);
 }
 
+/// Where Q spreads a word of R over many entries, R's columns notice a change that Q times R hardly
+/// shows, so that their limit is one of its own.
+#[test]
+fn the_columns_of_r_can_be_outside_alone() {
+    let folder = Folder::new("check-columns-alone");
+    let matrix = uniform_record((32767, 32767));
+    let mut result = worked(&matrix);
+    add_to_word(&mut result, 0, 1 << 14);
+    let outcome = check(&folder, &matrix, &result);
+    let mut expected = ALL_WITHIN;
+    expected[2] = "OUTSIDE";
+    assert_eq!(verdicts(&outcome), expected, "{}", outcome.text());
+    assert_eq!(outcome.status, 1);
+}
+
 #[test]
 fn the_rules_of_r_are_counted() {
     let folder = Folder::new("check-rules");
