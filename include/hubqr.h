@@ -28,12 +28,13 @@
  *   which is two steps of the 16-bit input.
  *
  * R without Q
- *   R has the lengths and angles of the input's columns: for any i and j the sum of R(k, i) * R(k, j) over k is 2^26 times the
- *   same sum over the real input, within 2^44. With i = j it is the square of a length, and R(0, 0) is a length itself: that of
- *   the input's first column times 2^13, within 2^22, and the nearer the longer the column is, since their squares are within
- *   2^44. Antenna k has columns k and 8 + k. So the product of antennas i and j, the sum over the 8 rows of the conjugate of
- *   antenna i's element times antenna j's, is found in R as well: times 2^26, and within 2^44, its real part is the sum for
- *   columns i and j, and its imaginary part that for columns 8 + i and j.
+ *   R has the lengths and angles of the input's columns: for any i and j the sum of R(k, i) * R(k, j) over k, which 64 bits
+ *   hold, is 2^26 times the same sum over the real input, within 2^44. That is the square of 512 steps of the 16-bit input, so
+ *   little is said of columns that are shorter. With i = j the sum is the square of a length, and R(0, 0) is a length itself:
+ *   2^13 times that of the input's first column, within 2^22, and the nearer the longer the column is, since the squares of the
+ *   two differ by at most 2^44. Antenna k has columns k and 8 + k. So the product of antennas i and j, the sum over the 8 rows of
+ *   the conjugate of antenna i's element times antenna j's, is found in R as well: times 2^26, and within 2^44, its real part is
+ *   the sum for columns i and j, and its imaginary part that for columns 8 + i and j.
  *
  * Words used below
  *   turn         One of the 120 rotations of two rows that make R and Q of a loaded matrix. Each makes its lower leading word 0.

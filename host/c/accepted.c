@@ -228,20 +228,39 @@ static void test_whole(void)
     CHECK("Whole leaves what is behind", guards_unchanged());
 }
 
-/* The header's scale. No column is longer than 2^30 and a little, so the sums stay within 64 bits. */
+/* The sum of products of two columns of the area. None is longer than 2^30 and a little, so that the sum stays within 64 bits. */
+static int64_t columns_product(int a, int b)
+{
+    int64_t sum = 0;
+    for (int k = 0; k < 16; k++) sum += (int64_t)area[HUBQR_AREA_COLUMNS * k + a] * area[HUBQR_AREA_COLUMNS * k + b];
+    return sum;
+}
+
+/* The same sum over the input made real. */
+static int64_t input_product(int i, int j)
+{
+    int64_t sum = 0;
+    for (int k = 0; k < 16; k++) sum += (int64_t)real_entry(k, i) * real_entry(k, j);
+    return sum;
+}
+
+static int is_within(int64_t error)
+{
+    return error <= INT64_C(1) << 44 && error >= -(INT64_C(1) << 44);
+}
+
+/* The header's scale. Q is transposed in columns 16 to 31, so that an entry of Q times R is a sum over two columns as well. */
 static void test_scale(void)
 {
-    int within = 1;
+    int product = 1, columns = 1;
     for (int i = 0; i < 16; i++) {
         for (int j = 0; j < 16; j++) {
-            int64_t error = -(int64_t)real_entry(i, j) * (INT64_C(1) << 43);
-            for (int k = 0; k < 16; k++) {
-                error += (int64_t)area[HUBQR_AREA_COLUMNS * k + 16 + i] * area[HUBQR_AREA_COLUMNS * k + j];
-            }
-            within &= error <= INT64_C(1) << 44 && error >= -(INT64_C(1) << 44);
+            product &= is_within(columns_product(16 + i, j) - (int64_t)real_entry(i, j) * (INT64_C(1) << 43));
+            columns &= is_within(columns_product(i, j) - input_product(i, j) * (INT64_C(1) << 26));
         }
     }
-    CHECK("Q times R is 2^43 times the input, within 2^44", within);
+    CHECK("Q times R is 2^43 times the input, within 2^44", product);
+    CHECK("products of R's columns are 2^26 times the input's, within 2^44", columns);
 }
 
 /* Blocks of exactly the needed sizes on the heap, where valgrind sees a step past their end. */

@@ -6,7 +6,7 @@ use crate::matrix::{RealMatrix, REAL_SIZE};
 /// The bound on every sum of products: 2^44.
 pub const BOUND: i128 = 1 << 44;
 
-/// The bound on R's first diagonal word, whose square has the bound above: 2^22.
+/// The bound on R's diagonal word 0, whose square has the bound above: 2^22.
 pub const WORD_BOUND: i128 = 1 << 22;
 
 /// The largest errors over all places of a worked matrix.
@@ -18,8 +18,8 @@ pub struct Errors {
     pub rows: i128,
     /// Sums of products of two columns of R against 2^26 times the input's.
     pub columns: i128,
-    /// R's first diagonal word against 2^13 times the length of the input's first column: the
-    /// smallest whole number that is not below the difference.
+    /// R's diagonal word 0 against 2^13 times the length of the input's first column: the smallest
+    /// whole number that is not below the difference.
     pub first_word: i128,
 }
 

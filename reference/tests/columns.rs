@@ -8,7 +8,7 @@ mod common;
 use common::{Both, Case};
 use reference::accuracy::{Errors, BOUND};
 use reference::area::WorkArea;
-use reference::cases::{edges, Kind};
+use reference::cases::Kind;
 use reference::matrix::{Complex, Matrix, ANTENNAS, REAL_SIZE};
 use reference::random::Random;
 use reference::records::write_matrix;
@@ -46,7 +46,7 @@ fn rows_of_r(area: &WorkArea, i: usize, j: usize) -> i128 {
 const SQUARED_LENGTH: i128 = 16 * 32767 * 32767;
 
 #[test]
-fn all_parts_32767_move_a_length_by_more_than_2_to_the_37() {
+fn all_parts_32767_move_a_squared_length_by_more_than_2_to_the_37() {
     let (area, errors) = worked("the loudest matrix", 0, &loudest());
     let moved = columns_of_r(&area, 15, 15) - (SQUARED_LENGTH << 26);
     assert_eq!(moved, 222_178_544_447);
@@ -57,17 +57,16 @@ fn all_parts_32767_move_a_length_by_more_than_2_to_the_37() {
 #[test]
 fn twice_the_scale_and_rows_for_columns_are_far_beyond_the_bound() {
     let (area, _) = worked("the loudest matrix", 1, &loudest());
-    let length = columns_of_r(&area, 0, 0);
-    assert!((length - (SQUARED_LENGTH << 27)).abs() > 1000 * BOUND);
+    let column = columns_of_r(&area, 0, 0);
+    assert!((column - (SQUARED_LENGTH << 27)).abs() > 1000 * BOUND);
     let row = rows_of_r(&area, 0, 0);
     assert!((row - (SQUARED_LENGTH << 26)).abs() > 1000 * BOUND);
-    assert!((row - (SQUARED_LENGTH << 27)).abs() > 1000 * BOUND);
 }
 
-/// R's first diagonal word is 11 above 2^13 times the length of the input's first column, whose
-/// square is then off by more than 2^34. The second column has a word above its diagonal one.
+/// R's diagonal word 0 is 11 above 2^13 times the length of the input's first column, and its square
+/// off by more than 2^34. The second column has a word above its diagonal one.
 #[test]
-fn the_first_word_of_all_parts_32767_is_11_too_long() {
+fn diagonal_word_0_of_all_parts_32767_is_11_too_long() {
     let (area, errors) = worked("the loudest matrix", 2, &loudest());
     assert_eq!(i64::from(area.r(0, 0)), 4 * 32767 * 8192 + 11);
     assert_eq!(errors.first_word, 11);
@@ -76,16 +75,16 @@ fn the_first_word_of_all_parts_32767_is_11_too_long() {
     assert_ne!(area.r(0, 1), 0);
 }
 
-/// The first word may be too short as well.
+/// The element (32767, 32767) alone makes a column of length 32767 times the root of 2, which times
+/// 2^13 is 379,613,477.26.
 #[test]
-fn the_first_word_of_an_edge_is_too_short() {
-    let too_short = |(number, matrix): (usize, &Matrix)| {
-        let (area, _) = worked("edges", number as u64, matrix);
-        let input = matrix.to_real();
-        let length: i128 = input.iter().map(|row| i128::from(row[0]).pow(2)).sum();
-        i128::from(area.r(0, 0)).pow(2) < length << 26
-    };
-    assert!(edges().iter().enumerate().any(too_short));
+fn diagonal_word_0_of_one_element_is_too_short() {
+    let element = |i, j| if i + j == 0 { i16::MAX } else { 0 };
+    let matrix = Matrix::from_fn(|i, j| Complex::new(element(i, j), element(i, j)));
+    let (area, errors) = worked("one element", 0, &matrix);
+    assert_eq!((area.r(0, 0), errors.first_word), (379_613_477, 1));
+    let square = (2 * i128::from(i16::MAX).pow(2)) << 26;
+    assert!(i128::from(area.r(0, 0)).pow(2) < square);
 }
 
 /// The sum over the rows of the conjugate of antenna i's element times antenna j's: its real and
@@ -104,8 +103,8 @@ fn antennas_product(matrix: &Matrix, i: usize, j: usize) -> (i128, i128) {
     })
 }
 
-/// The real part is read from columns i and j of R, the imaginary one from columns 8 + i and j, and
-/// neither from any other two.
+/// The real part is read from columns i and j of R, the imaginary one from columns 8 + i and j. With
+/// the other sign, or from columns i and 8 + j, they would be wrong.
 #[test]
 fn antennas_are_compared_by_columns_of_r() {
     let (mut conjugates_differ, mut columns_differ) = (0, 0);

@@ -90,7 +90,7 @@ fn worked_matrices_agree_and_are_accurate() {
     assert_eq!(all.most, TURNS, "no matrix cost all turns");
     tallies.push(all);
     println!(
-        "\nThe largest error seen, as a share of 2^44, of R's first word, and the turns made and \
+        "\nThe largest error seen, as a share of 2^44, and that of R's word (0, 0); turns made and \
          skipped:"
     );
     println!(
@@ -100,7 +100,7 @@ fn worked_matrices_agree_and_are_accurate() {
         "Q times R",
         "rows of Q",
         "columns of R",
-        "first word",
+        "R(0, 0)",
         "made",
         "skipped",
         "most"

@@ -17,7 +17,7 @@ re rec k i = partOf rec (k * 8 + i) 0
 abbrev pub im : List ℕ → ℕ → ℕ → ℤ
 im rec k i = partOf rec (k * 8 + i) 1
 
--- the real and the imaginary part of the product of antennas i and j: of each row, (x - y i) (u + v i)
+-- the real and the imaginary part of the product of antennas i and j. In a row where their elements have the parts x, y and u, v they are x u + y v and x v - y u
 abbrev pub realProduct : List ℕ → ℕ → ℕ → ℤ
 realProduct rec i j = sum 8 (λ k. re rec k i *ℤ re rec k j +ℤ im rec k i *ℤ im rec k j)
 
@@ -26,9 +26,9 @@ imaginaryProduct rec i j = sum 8 (λ k. re rec k i *ℤ im rec k j -ℤ im rec k
 
 -- of a matrix record and its R
 pub record Antennas (rec : List ℕ) (r : Matrix) : Type 0 where
-  -- columns i and j of R have the real part of the product of antennas i and j: times 2^26, within 2^44
+  -- the sum for columns i and j of R is the real part of the product of antennas i and j, times 2^26 and within 2^44
   pub real : (i j : ℕ) → i < 8 → j < 8 → Within (gram r i j -ℤ pos (2 ^ 26) *ℤ realProduct rec i j) (2 ^ 44)
-  -- and columns 8 + i and j its imaginary part
+  -- and that for columns 8 + i and j its imaginary part
   pub imaginary : (i j : ℕ) → i < 8 → j < 8 → Within (gram r (8 + i) j -ℤ pos (2 ^ 26) *ℤ imaginaryProduct rec i j) (2 ^ 44)
 
 -- wherever demand 3 speaks of a matrix worked to the end

@@ -1,5 +1,5 @@
 -- What a matrix that is worked to the end says of lengths, for those who use R without Q (document 02, U6): the length of each column of R against that of the
--- input's, and R's diagonal word 0 against the first. A length is a square root, so that its square is compared. Assumes nothing.
+-- input's, and R's diagonal word 0 against the length of the input's first column. A length is a square root, so its square is compared. Assumes nothing.
 use mathlib.Core.Path.{_≡_}
 use Prim.Native.Nat.{ℕ, _+_, _-_, _*_, _^_, _≤_, _<_}
 use lib.IntN.{pos, natAbs, _-ℤ_}
@@ -17,11 +17,11 @@ squaredLength m j = total 16 (λ k. square (m k j))
 pub record Lengths (a r : Matrix) : Type 0 where
   -- the squared length of each column of R lies within 2^44 of 2^26 times that of the input's
   pub column : (j : ℕ) → j < 16 → Within (pos (squaredLength r j) -ℤ pos (2 ^ 26 * squaredLength a j)) (2 ^ 44)
-  -- R's diagonal word 0, which is not negative, is the length of R's first column, since 0 stands under it
+  -- R's diagonal word 0, which is not negative, is the length of R's first column, since only zeros stand under it
   pub first-length : squaredLength r 0 ≡ square (r 0 0)
   -- so its square lies within 2^44 of 2^26 times the squared length of the input's first column
   pub first-square : Within (pos (square (r 0 0)) -ℤ pos (2 ^ 26 * squaredLength a 0)) (2 ^ 44)
-  -- and 2^13 times that length lies between the word less 2^22 (or 0, if that is more) and the word and 2^22
+  -- and 2^13 times the length itself lies between the word minus 2^22 (0 if that is negative) and the word plus 2^22
   pub first-least : (natAbs (r 0 0) - 2 ^ 22) * (natAbs (r 0 0) - 2 ^ 22) ≤ 2 ^ 26 * squaredLength a 0
   pub first-most : 2 ^ 26 * squaredLength a 0 ≤ (natAbs (r 0 0) + 2 ^ 22) * (natAbs (r 0 0) + 2 ^ 22)
 

@@ -1,4 +1,5 @@
--- Products of the columns of a workspace, which is a function of row and column here, in two rows, and what a Givens rotation keeps of them. Assumes nothing.
+-- Products of two columns of a workspace within two rows, and what a Givens rotation keeps of them. A workspace is a function of row and column here. Assumes
+-- nothing.
 use mathlib.Core.Path.{_≡_}
 use mathlib.Core.Logic.{_≢_}
 use Prim.Native.Nat.{ℕ, _+_, _*_, _^_, _≤_, _<_}
@@ -10,7 +11,7 @@ use Rattle.integers.specs.Square.{square}
 use Rattle.schedule.specs.declared.Rotation.{Rotation}
 use Rattle.integers.specs.Matrix.{Matrix}
 
--- the part of the Gram sum of columns a and b that two rows hold
+-- the part of the sum of products of columns a and b that two rows hold
 abbrev pub pair : Matrix → ℕ → ℕ → ℕ → ℕ → ℤ
 pair W u l a b = W u a *ℤ W u b +ℤ W l a *ℤ W l b
 

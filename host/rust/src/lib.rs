@@ -18,11 +18,14 @@
 //! Q times R is 2^43 times the 16-bit input, within 2^44.
 //!
 //! R without Q has the lengths and angles of the input's columns: for any two columns the sum of the
-//! products of their words is 2^26 times the same sum over the real input, within 2^44. Antenna k
-//! has columns k and 8 + k. So the product of antennas i and j, the sum over the 8 rows of the
-//! conjugate of antenna i's element times antenna j's, is found in R as well: times 2^26, and within
-//! 2^44, its real part is the sum for columns i and j, and its imaginary part that for columns 8 + i
-//! and j.
+//! products of their words, which an `i64` holds, is 2^26 times the same sum over the real input,
+//! within 2^44. That is the square of 512 steps of the 16-bit input, so little is said of columns
+//! that are shorter. Of a column with itself the sum is the square of its length, and word (0, 0) of
+//! R is a length itself: 2^13 times that of the input's first column, within 2^22, and the nearer
+//! the longer the column is, since the squares of the two differ by at most 2^44. Antenna k has
+//! columns k and 8 + k. So the product of antennas i and j, the sum over the 8 rows of the conjugate
+//! of antenna i's element times antenna j's, is found in R as well: times 2^26, and within 2^44, its
+//! real part is the sum for columns i and j, and its imaginary part that for columns 8 + i and j.
 //!
 //! A **turn** makes the lower leading word of two rows 0. Where that word is 0 already and the upper
 //! leading word is 0 or more, the turn is clear: it is skipped, and leaves both rows as they are.

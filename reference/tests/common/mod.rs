@@ -82,7 +82,7 @@ pub struct Both {
     filled: Option<[i32; AREA_WORDS]>,
     area: Twin<i32>,
     buffer: Twin<u8>,
-    /// The matrix that the areas were loaded with, while each accepted call since was in step.
+    /// The matrix that the areas were loaded with, while each accepted Run since was in step.
     loaded: Option<Loaded>,
     /// The errors of the matrix in the areas, once it is worked to the end.
     worked: Option<Errors>,
@@ -150,6 +150,7 @@ impl Both {
 
     /// Whatever the area holds, an accepted Run goes on by its count, makes no more turns than
     /// that, and answers a job that exists; a refused one gives back its job, and all else is 0.
+    /// The last Run of a matrix that was worked in step leaves an accurate R and Q.
     pub fn run(&mut self, job: Job, allowance: u16) -> RunReply {
         let engine = engine::run(job, allowance, self.area.engine());
         let reference = calls::run(job, allowance, self.area.reference());
@@ -164,8 +165,9 @@ impl Both {
             let within = next.turn == job.turn + count && next.turn <= 120;
             self.require(within && next.made <= next.turn, "no such job was answered");
             self.loaded = self.loaded.and_then(|loaded| loaded.after(job, next));
-            if let Some(loaded) = self.loaded.filter(|_| next.is_finished() && count > 0) {
-                self.require_worked(loaded);
+            if count > 0 {
+                self.worked = None;
+                self.require_worked_if_finished();
             }
         } else {
             let nothing = next == job && count == 0 && engine.clamps == Clamps::NONE;

@@ -25,8 +25,8 @@ impl Loaded {
         }
     }
 
-    /// The same after a Run that took one job and answered another. Of one that was handed another
-    /// job than the one last answered, nothing is promised.
+    /// The same after a Run that took one job and answered another. None where the Run was handed
+    /// another job than the one last answered: nothing is promised then.
     pub fn after(self, job: Job, next: Job) -> Option<Self> {
         let input = self.input;
         (self.job == job).then_some(Loaded { input, job: next })
@@ -34,6 +34,13 @@ impl Loaded {
 }
 
 impl Both {
+    /// Holds a loaded matrix to the promise, once the last turn is done.
+    pub(super) fn require_worked_if_finished(&mut self) {
+        if let Some(loaded) = self.loaded.filter(|loaded| loaded.job.is_finished()) {
+            self.require_worked(loaded);
+        }
+    }
+
     /// Fails the test unless the area holds an accurate R and Q of a matrix.
     pub(super) fn require_worked(&mut self, loaded: Loaded) {
         let area = self.area();
@@ -47,7 +54,9 @@ impl Both {
 
     /// The errors of the matrix in the areas, which was worked to the end.
     pub fn errors(&self) -> Errors {
-        self.require(self.worked.is_some(), "no matrix was worked to the end");
-        self.worked.unwrap_or_default()
+        let Some(errors) = self.worked else {
+            panic!("no matrix was worked to the end\n{}", self.named());
+        };
+        errors
     }
 }
