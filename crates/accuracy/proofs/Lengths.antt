@@ -1,9 +1,7 @@
 -- The lengths of R's columns, from the products of a column with itself. Assumes nothing.
 use mathlib.Core.Path.{_≡_, refl, sym, ap, _∙_, subst, subst₂}
 use mathlib.Core.Logic.{_≢_}
-use Prim.Native.Nat.{ℕ, zero, suc, _+_, _-_, _*_, _^_, _≤_, _<_}
-use native.Mathlib.Nat.{add-mul, mul-add}
-use native.Mathlib.Decide.{decLe}
+use Prim.Native.Nat.{ℕ, zero, suc, _+_, _*_, _^_, _≤_, _<_}
 use native.Mathlib.Omega.{arith}
 use lib.IntN.{ℤ, pos, natAbs, _-ℤ_, _*ℤ_, zero-*ℤ}
 use Rattle.integers.specs.Matrix.{Matrix}
@@ -12,6 +10,7 @@ use Rattle.integers.specs.Square.{square}
 use Rattle.integers.proofs.Laws.{square-is}
 use Rattle.integers.proofs.Within.{within-abs, within-swap}
 use Rattle.integers.proofs.Sum.{sum-one}
+use Rattle.integers.proofs.Root.{root-most, root-least}
 use Rattle.matrix_record.specs.MatrixRecord.{realEntry}
 use Rattle.workspace.specs.Workspace.{R, Q}
 use Rattle.accuracy.specs.Factorization.{Factorization}
@@ -19,25 +18,6 @@ use Rattle.accuracy.specs.Demand3.{Load, workspaceAfter}
 use Rattle.accuracy.specs.Lengths.{squaredLength, Lengths, LengthsKept}
 use Rattle.accuracy.proofs.Gram.{gram-length}
 use Rattle.accuracy.proofs.Demand3.{first, done}
-
--- ---- a number whose square lies within d squared of s: the root of s lies within d of it
-
-squared-sum : (v d : ℕ) → (v + d) * (v + d) ≡ (v * v + d * v) + (v * d + d * d)
-squared-sum v d = mul-add (v + d) v d ∙ ap (λ (x : ℕ). x + (v + d) * d) (add-mul v d v) ∙ ap (λ (x : ℕ). (v * v + d * v) + x) (add-mul v d d)
-
-root-most : (w s d : ℕ) → s ≤ w * w + d * d → s ≤ (w + d) * (w + d)
-root-most w s d h = omega (arith, h, squared-sum w d)
-
-root-least : (w s d : ℕ) → w * w ≤ s + d * d → (w - d) * (w - d) ≤ s
-root-least w s d h = pick (decLe d w)
-  where
-    pick : Dec (d ≤ w) → (w - d) * (w - d) ≤ s
-    pick (yes k) =
-        let e : w ≡ (w - d) + d = omega arith in
-        omega (arith, h, ap (λ (x : ℕ). x * x) e ∙ squared-sum (w - d) d)
-    pick (no k) = let e : w - d ≡ 0 = omega arith in rw e (omega arith)
-
--- ---- the lengths
 
 module _ (a r q : Matrix) (f : Factorization a r q) where
   -- 2^13 times the length of the input's column j, squared

@@ -1,4 +1,4 @@
--- Laws of the whole numbers, a ring solver, bounds, sums, shifts, and claims that are tested by computing.
+-- Laws of the whole numbers, a ring solver, bounds, sums, shifts, square roots, and claims that are tested by computing.
 pub mod Laws
 pub mod Order
 pub mod Ring
@@ -7,4 +7,5 @@ pub mod Within
 pub mod Magnitude
 pub mod Floor
 pub mod Sum
+pub mod Root
 pub mod Claim

@@ -41,16 +41,16 @@ module _ (rec : List ℕ) (bytes : (k : ℕ) → getD rec k 0 < 256) where
 
 -- ---- element (i, j) in the four quarters of the real matrix
 
+first-half : (k : ℕ) → k < 8 → k % 8 ≡ k
+first-half k h = omega arith
+
+second-half : (k : ℕ) → k < 8 → (8 + k) % 8 ≡ k
+second-half k h = omega arith
+
+not-first : (k : ℕ) → 8 ≤ 8 + k
+not-first k = omega arith
+
 module _ (rec : List ℕ) (i j : ℕ) (p : i < 8) (q : j < 8) where
-  first-half : (k : ℕ) → k < 8 → k % 8 ≡ k
-  first-half k h = omega arith
-
-  second-half : (k : ℕ) → k < 8 → (8 + k) % 8 ≡ k
-  second-half k h = omega arith
-
-  not-first : (k : ℕ) → 8 ≤ 8 + k
-  not-first k = omega arith
-
   pub upper-left : realEntry rec i j ≡ partOf rec (i * 8 + j) 0
   unfolding realEntry
   upper-left = rw (lt-ltb i 8 p, lt-ltb j 8 q, first-half i p, first-half j q)
