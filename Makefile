@@ -24,7 +24,7 @@ CFLAGS := -std=c11 -Wall -Wextra -Werror -pedantic -Iinclude
 CARGO := cargo --quiet
 SOURCES := crates.txt $(shell find crates -type f)
 TOOLS := build/cargo/release
-EXAMPLES := $(TOOLS)/instalments $(TOOLS)/snapshots $(TOOLS)/weights
+EXAMPLES := $(TOOLS)/instalments $(TOOLS)/snapshots $(TOOLS)/weights $(TOOLS)/desk
 # rt waits for each batch of its checks, and they are of unequal length: with two jobs for each processor it waits less.
 RT_JOBS ?= $(shell n=$$(nproc 2> /dev/null) || n=1; echo $$((2 * n)))
 export RT_JOBS
@@ -130,9 +130,11 @@ check-examples: build/libhubqr.a build/qr $(EXAMPLES) $(TOOLS)/record
 	$(CC) $(CFLAGS) -O2 examples/instalments.c build/libhubqr.a -o build/instalments
 	$(CC) $(CFLAGS) -O2 examples/snapshots.c build/libhubqr.a -o build/snapshots
 	$(CC) $(CFLAGS) -O2 examples/weights.c build/libhubqr.a -o build/weights
+	$(CC) $(CFLAGS) -O2 examples/desk.c build/libhubqr.a -o build/desk
 	sh examples/compare.sh build/instalments $(TOOLS)/instalments
 	sh examples/test-snapshots.sh build/snapshots $(TOOLS)/snapshots build/qr $(TOOLS)/record
 	sh examples/test-weights.sh build/weights $(TOOLS)/weights build/qr $(TOOLS)/record
+	sh examples/test-desk.sh build/desk $(TOOLS)/desk
 	sh examples/test-run.sh build/qr $(TOOLS)/record
 
 bench: build/libhubqr.a

@@ -25,7 +25,7 @@ const NARROW: Version = Version {
     sources: &["narrow.c", "wide.c", "calls.c"],
 };
 
-const VERSIONS: [Version; 6] = [
+const VERSIONS: [Version; 7] = [
     Version {
         name: "plain",
         options: &["-DROTATE=rotate_plain"],
@@ -56,6 +56,12 @@ const VERSIONS: [Version; 6] = [
         processor: BASELINE,
         sources: &["weights.c"],
     },
+    Version {
+        name: "desk",
+        options: &["-I../include"],
+        processor: BASELINE,
+        sources: &["desk.c"],
+    },
 ];
 
 fn main() {
@@ -83,8 +89,11 @@ fn watch() {
         "version.h",
         "covariance.h",
         "weights.h",
+        "desk.h",
+        "../include/hubqr.h",
         "../include/hubqr_base.h",
         "../include/hubqr_covariance.h",
+        "../include/hubqr_desk.h",
         "../include/hubqr_weights.h",
         "double.h",
         "lapack.c",

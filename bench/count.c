@@ -1,9 +1,11 @@
 /*
  * Calls whose instructions count.sh counts. With the argument full: MATRICES random matrices by Load, Run and Fetch, and as many
  * others by Whole; the weights of the latter for random targets, and SNAPSHOTS random snapshots added and the sums written after
- * each, by the engine and by the versions in C. With the argument half-empty or diagonal: MATRICES such matrices by Whole.
+ * each, by the engine and by the versions in C. With the argument half-empty or diagonal: MATRICES such matrices by Whole. With
+ * the argument desk: as many Runs of request 0, by the engine's desk and by that in C.
  */
 #include "covariance.h"
+#include "desk.h"
 #include "hubqr.h"
 #include "weights.h"
 
@@ -130,6 +132,21 @@ static int emptier(void (*make)(uint8_t *record))
     return 1;
 }
 
+/* Answers whether both desks accept a request of 0 for each sector, so that what they do beside the turns is counted. */
+static int at_desks(void)
+{
+    struct hubqr_desk desk = hubqr_desk_new();
+    for (uint32_t k = 0; k < MATRICES; k++) {
+        uint32_t sector = k % HUBQR_SECTORS;
+        struct hubqr_desk_run_reply by_engine = hubqr_desk_run(desk, sector, 0, area, HUBQR_AREA_WORDS);
+        struct hubqr_desk_run_reply in_c = NAME(desk_run)(desk, sector, 0, area, HUBQR_AREA_WORDS);
+        if (by_engine.number != HUBQR_ACCEPTED || in_c.number != HUBQR_ACCEPTED) {
+            return 0;
+        }
+    }
+    return 1;
+}
+
 /* Answers whether every call accepts what it is handed. */
 static int all_calls(void)
 {
@@ -155,6 +172,9 @@ static int counted(const char *argument)
     }
     if (strcmp(argument, "half-empty") == 0) {
         return emptier(draw_half_empty);
+    }
+    if (strcmp(argument, "desk") == 0) {
+        return at_desks();
     }
     return strcmp(argument, "diagonal") == 0 && emptier(make_diagonal);
 }

@@ -13,13 +13,13 @@ snapshots=1000
 scratch=$(mktemp -d)
 trap 'rm -rf "$scratch"' EXIT
 # The versions in C are compiled as the benchmark compiles them. Only the weights have products and differences that could be fused.
-for version in covariance weights; do
+for version in covariance weights desk; do
     gcc -std=c11 -O3 -march=x86-64 -ffp-contract=off -Wall -Wextra -Iinclude -DVERSION=c -c bench/$version.c -o "$scratch/$version.o"
 done
 cc -std=c11 -O2 -Wall -Wextra -Iinclude -DMATRICES=$matrices -DSNAPSHOTS=$snapshots -DVERSION=c \
-    bench/count.c "$scratch/covariance.o" "$scratch/weights.o" "$archive" -o "$scratch/count"
-# What callgrind counts of matrices of each kind goes into a file of that name.
-for kind in full half-empty diagonal; do
+    bench/count.c "$scratch/covariance.o" "$scratch/weights.o" "$scratch/desk.o" "$archive" -o "$scratch/count"
+# What callgrind counts of matrices of each kind, and at the desk, goes into a file of that name.
+for kind in full half-empty diagonal desk; do
     valgrind --quiet --tool=callgrind --callgrind-out-file="$scratch/calls" "$scratch/count" $kind
     callgrind_annotate --inclusive=yes --threshold=100 "$scratch/calls" >"$scratch/$kind"
 done
@@ -42,7 +42,7 @@ awk -v matrices=$matrices -v snapshots=$snapshots -v style="${1:-plain}" '
         row(call, whole_number(engine), whole_number(in_c), sprintf("%.3f", engine / in_c))
     }
     match($0, /hubqr_(load|run|fetch|whole)/) {
-        name = substr($0, RSTART + 6, RLENGTH - 6) emptier
+        name = substr($0, RSTART + 6, RLENGTH - 6) kind
         gsub(",", "", $1)
         count[name] = $1 / matrices
     }
@@ -51,7 +51,7 @@ awk -v matrices=$matrices -v snapshots=$snapshots -v style="${1:-plain}" '
         gsub(",", "", $1)
         count[name] = $1 / snapshots
     }
-    match($0, /(hubqr_weights|c_weights)/) {
+    match($0, /(hubqr_weights|c_weights|hubqr_desk_run|c_desk_run)/) {
         name = substr($0, RSTART, RLENGTH)
         gsub(",", "", $1)
         count[name] = $1 / matrices
@@ -72,4 +72,5 @@ awk -v matrices=$matrices -v snapshots=$snapshots -v style="${1:-plain}" '
         compared("Adding a snapshot", count["hubqr_add_snapshot"], count["c_add_by_value"])
         compared("Writing the record", count["hubqr_write_matrix"], count["c_write_by_value"])
         compared("Weights", count["hubqr_weights"], count["c_weights"])
-    }' "$scratch/full" emptier=', half-empty' "$scratch/half-empty" emptier=', diagonal' "$scratch/diagonal"
+        compared("Desk, request 0", count["hubqr_desk_run"], count["c_desk_run"])
+    }' "$scratch/full" kind=', half-empty' "$scratch/half-empty" kind=', diagonal' "$scratch/diagonal" kind=', desk' "$scratch/desk"

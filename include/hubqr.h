@@ -12,6 +12,8 @@
  *   Later on:        hubqr_read brings a result record back into an area.
  *   For weights:     hubqr_weights.h, which this header includes as well, works out from a result record what the antennas are
  *                    weighted with.
+ *   For sectors:     hubqr_desk.h, which this header includes too, serves eight sectors, each with an area of its own, from the
+ *                    120 turns that a round has for all of them.
  *
  * Records (numbers are two's complement, high byte first)
  *   Matrix record, 257 bytes:    HUBQR_KIND_MATRIX, then 64 elements row by row, each a 16-bit real part and a 16-bit imaginary
@@ -55,15 +57,15 @@
  *   heard byte   Bit k (value 2^k) is set when antenna k was heard: when the real part of element (k, k) of the complex matrix is
  *                above HUBQR_HEARD_ABOVE, which is 16. Nothing else of the matrix counts, neither the imaginary parts nor the
  *                elements off the diagonal, and a negative real part is not above 16. An antenna that was not heard is factored
- *                like the others. A matrix in which none was heard is refused with number 4, whatever else it holds, so an
- *                accepted call never answers 0 here.
+ *                like the others. A matrix in which none was heard is refused with number 4, whatever else it holds, so the
+ *                heard byte of a loaded matrix is never 0.
  *
  * Replies and refusals
  *   A call answers by value: a struct, or the number alone where there is nothing else to answer. Each call tests what it is
  *   handed, in the order given with it. The reply's `number` is that of the first test that fails, or HUBQR_ACCEPTED. A refused
  *   call changes no word of the area and no byte of the buffer, and the other fields of its reply are 0, except that hubqr_run
- *   answers the job it was handed, and hubqr_add_snapshot the sums it was handed. hubqr_base.h, which all headers include, lists
- *   the refusals; hubqr_refusal_words says a number in words.
+ *   answers the job it was handed, hubqr_add_snapshot the sums, and each call of hubqr_desk.h the desk. hubqr_base.h, which all
+ *   headers include, lists the refusals; hubqr_refusal_words says a number in words.
  *
  * Ownership and threads
  *   The caller owns every record, area and buffer, before, during and after a call. The library keeps no pointer, has no state of
@@ -92,16 +94,13 @@
 
 #include "hubqr_base.h"
 #include "hubqr_covariance.h"
+#include "hubqr_desk.h"
 #include "hubqr_weights.h"
-
-/* Words of the area, and the number of turns. */
-#define HUBQR_AREA_WORDS 512
-#define HUBQR_TURNS 120
 
 /* An antenna is heard when its real part on the diagonal is above this: a loose plug leaves a part of one or two. */
 #define HUBQR_HEARD_ABOVE 16
 
-/* The area's shape. */
+/* The area's shape, which makes its HUBQR_AREA_WORDS words. */
 #define HUBQR_AREA_ROWS 16
 #define HUBQR_AREA_COLUMNS 32
 
@@ -112,12 +111,6 @@
 #ifdef __cplusplus
 extern "C" {
 #endif
-
-/* How far the work on an area is. */
-struct hubqr_job {
-    uint32_t turn; /* the turn number: how many of the 120 turns are done, the skipped ones included */
-    uint32_t made; /* how many turns were truly made since Load */
-};
 
 /* What Load answers. */
 struct hubqr_load_reply {

@@ -1,8 +1,8 @@
 /*
  * SPDX-License-Identifier: Apache-2.0
  *
- * hubqr_base.h - what all headers of libhubqr.a stand on: the version, the records, what a compiler is told of a call, and the
- * refusals. Each header includes it, so that a host need not; hubqr.h says in words what these names are for.
+ * hubqr_base.h - what all headers of libhubqr.a stand on: the version, the records, the area and its job, what a compiler is told
+ * of a call, and the refusals. Each header includes it, so that a host need not; hubqr.h says in words what these names are for.
  */
 #ifndef HUBQR_BASE_H
 #define HUBQR_BASE_H
@@ -12,7 +12,7 @@
 
 /* The version of these headers. */
 #define HUBQR_VERSION_MAJOR 0
-#define HUBQR_VERSION_MINOR 7
+#define HUBQR_VERSION_MINOR 8
 #define HUBQR_VERSION_PATCH 0
 #define HUBQR_VERSION (10000 * HUBQR_VERSION_MAJOR + 100 * HUBQR_VERSION_MINOR + HUBQR_VERSION_PATCH)
 
@@ -25,6 +25,10 @@
 #define HUBQR_KIND_MATRIX 0x01
 #define HUBQR_KIND_RESULT 0x02
 #define HUBQR_KIND_REFUSAL 0x03
+
+/* Words of the area, and the number of turns. */
+#define HUBQR_AREA_WORDS 512
+#define HUBQR_TURNS 120
 
 /*
  * What declarations tell a compiler that listens; others see nothing. HUBQR_REPLY: the reply has to be looked at, since it says
@@ -61,6 +65,12 @@
 extern "C" {
 #endif
 
+/* How far the work on an area is. */
+struct hubqr_job {
+    uint32_t turn; /* the turn number: how many of the 120 turns are done, the skipped ones included */
+    uint32_t made; /* how many turns were truly made since Load */
+};
+
 /* The refusals: the name in enum hubqr_refusal, the number, and what hubqr_refusal_words says of it. */
 #define HUBQR_REFUSALS(X)                                                                                                      \
     X(HUBQR_WRONG_KIND, 1, "the record is empty or its kind byte is not the one expected")                                     \
@@ -75,7 +85,9 @@ extern "C" {
     X(HUBQR_NONE_ADDED, 9, "no snapshot has been added")                                                                       \
     X(HUBQR_SUMS_OUT_OF_RANGE, 10,                                                                                             \
       "4,096 snapshots have been added already, the count is above that, or a sum is beyond 2^31 times the count")             \
-    X(HUBQR_ZERO_DIAGONAL, 11, "one of R's 16 diagonal words is 0")
+    X(HUBQR_ZERO_DIAGONAL, 11, "one of R's 16 diagonal words is 0")                                                            \
+    X(HUBQR_NO_SUCH_SECTOR, 12, "the sector is above 7")                                                                       \
+    X(HUBQR_ROUND_USED_UP, 13, "turns are requested for an unfinished job, and the round has none left")
 
 /* What a reply's `number` can be. */
 enum hubqr_refusal {

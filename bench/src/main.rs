@@ -6,6 +6,7 @@ mod clock;
 mod contenders;
 mod costs;
 mod covariance;
+mod desk;
 mod doubles;
 #[cfg(earlier)]
 mod earlier;
@@ -52,6 +53,7 @@ fn main() -> ExitCode {
     print(&options, &rounds::measured(rounds, seed));
     print_covariance(&options, &covariance::rounds::measured(rounds, seed));
     print_weights(&options, &weights::rounds::measured(rounds, seed));
+    print_desk(&options, &desk::rounds::measured(rounds, seed));
     ExitCode::SUCCESS
 }
 
@@ -69,6 +71,9 @@ fn agree(seed: u64) -> Result<(), String> {
         contender.check(seed)?;
     }
     for contender in weights::contenders::all() {
+        contender.check(seed)?;
+    }
+    for contender in desk::contenders::desks() {
         contender.check(seed)?;
     }
     Ok(())
@@ -107,7 +112,13 @@ fn print_weights(options: &Options, results: &weights::rounds::Results) {
     section(options, "Weights", weights::report::everyone(results));
     let spreads = weights::report::spreads(results);
     section(options, "Nine of ten rounds of weights", spreads);
-    println!("{}", weights::report::words(results));
+    println!("{}\n", weights::report::words(results));
+}
+
+fn print_desk(options: &Options, results: &desk::rounds::Results) {
+    let everyone = desk::report::everyone(results);
+    section(options, "A desk for eight sectors", everyone);
+    println!("{}", desk::report::words(results));
 }
 
 fn section(options: &Options, title: &str, table: Table) {

@@ -182,11 +182,11 @@ fn ratio_time_cycles<M: Copy + PartialEq>(
     ]
 }
 
-fn ratio(value: Option<f64>) -> String {
+pub fn ratio(value: Option<f64>) -> String {
     value.map_or(NOTHING.to_string(), |ratio| format!("{ratio:.3}"))
 }
 
-fn number(value: Option<f64>) -> String {
+pub fn number(value: Option<f64>) -> String {
     value.map_or(NOTHING.to_string(), grouped)
 }
 

@@ -59,6 +59,12 @@ int is_job(struct hubqr_job job, uint32_t turn, uint32_t made)
     return job.turn == turn && job.made == made;
 }
 
+int same_desk(const struct hubqr_desk *a, const struct hubqr_desk *b)
+{
+    return memcmp(a->jobs, b->jobs, sizeof a->jobs) == 0 && memcmp(a->heard, b->heard, sizeof a->heard) == 0 &&
+           a->left == b->left;
+}
+
 /* An accepted call may write all but the guards. */
 static int rightly_changed(uint8_t number)
 {

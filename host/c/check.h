@@ -38,6 +38,8 @@ void set_element(uint8_t *record, int row, int column, int16_t real, int16_t ima
 
 /* Whether a job has this turn number and this count of turns made. */
 int is_job(struct hubqr_job job, uint32_t turn, uint32_t made);
+/* Whether two desks have the same in all their fields. */
+int same_desk(const struct hubqr_desk *a, const struct hubqr_desk *b);
 
 /*
  * Load and Whole answer this heard byte for a matrix record. With 0, both refuse it with number 4 and change nothing; otherwise
@@ -52,5 +54,7 @@ void test_heard(void);
 void test_refused(void);
 void test_covariance(void);
 void test_weights(void);
+void test_desk(void);
+void test_desk_refused(void);
 
 #endif

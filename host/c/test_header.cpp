@@ -106,10 +106,44 @@ static bool weighted()
            zero.number == HUBQR_ZERO_DIAGONAL && zero.weights[2].im == 0;
 }
 
+// A sector works through a round. The matrix has nothing but (17, 0) at (0, 0), so that its turns are skipped, and paid.
+static bool served()
+{
+    record.fill(0);
+    record[0] = HUBQR_KIND_MATRIX;
+    record[2] = HUBQR_HEARD_ABOVE + 1;
+    hubqr_desk desk = hubqr_desk_new();
+    auto loaded = hubqr_desk_load(desk, 7, record.data(), record.size(), area.data(), area.size());
+    desk = loaded.desk;
+    bool begun = loaded.number == HUBQR_ACCEPTED && loaded.heard == 1 && is_job(loaded.job, 0, 0) && desk.left == 120;
+    auto ran = hubqr_desk_run(desk, 7, 100, area.data(), area.size());
+    bool granted = ran.number == HUBQR_ACCEPTED && ran.count == 100 && is_job(ran.desk.jobs[7], 100, 0) && ran.desk.left == 20;
+    auto rest = hubqr_desk_run_at(&ran.desk, 7, 100, area.data(), area.size());
+    bool finished = rest.number == HUBQR_ACCEPTED && rest.count == 20 && ran.desk.left == 0;
+    auto fetched = hubqr_desk_fetch(ran.desk, 7, area.data(), area.size(), buffer.data(), buffer.size());
+    return begun && granted && finished && fetched.number == HUBQR_ACCEPTED && buffer[0] == HUBQR_KIND_RESULT &&
+           hubqr_desk_fetch_at(&ran.desk, 7, area.data(), area.size(), buffer.data(), 0) == HUBQR_BUFFER_TOO_SHORT;
+}
+
+// The round is used up for sector 0, which is loaded then, until the next one begins; and there is no sector 256.
+static bool turned_away()
+{
+    hubqr_desk desk = hubqr_desk_begin(hubqr_desk_new()).desk;
+    desk.left = 0;
+    auto loaded = hubqr_desk_load_at(&desk, 0, record.data(), record.size(), area.data(), area.size());
+    auto ran = hubqr_desk_run_at(&desk, 0, 1, area.data(), area.size());
+    bool used_up = ran.number == HUBQR_ROUND_USED_UP && is_job(ran.job, 0, 0) && ran.count == 0 && desk.left == 0;
+    bool next = hubqr_desk_begin_at(&desk) == HUBQR_ACCEPTED && desk.left == HUBQR_ROUND_TURNS;
+    auto heard = hubqr_desk_heard(desk, 0), none = hubqr_desk_heard_at(&desk, 256);
+    return loaded.number == HUBQR_ACCEPTED && used_up && next && heard.number == HUBQR_ACCEPTED && heard.heard == 1 &&
+           none.number == HUBQR_NO_SUCH_SECTOR && none.heard == 0;
+}
+
 int main()
 {
     bool named = hubqr_version() == HUBQR_VERSION && hubqr_refusal_words(HUBQR_ACCEPTED) == std::string_view("accepted");
-    bool holds = accepted() && in_instalments() && clamped() && refused() && covariance() && weighted() && named;
+    bool calls = accepted() && in_instalments() && clamped() && refused() && covariance() && weighted();
+    bool holds = calls && served() && turned_away() && named;
     std::puts(holds ? "hubqr C++ face: passed" : "hubqr C++ face: FAILED");
     return holds ? 0 : 1;
 }

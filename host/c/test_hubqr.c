@@ -15,6 +15,8 @@ int main(void)
     test_refused();
     test_covariance();
     test_weights();
+    test_desk();
+    test_desk_refused();
     printf("hubqr C face: %u checks passed\n", checks_passed());
     return 0;
 }

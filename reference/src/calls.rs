@@ -41,7 +41,7 @@ pub fn whole(record: &[u8], area: &mut [i32], buffer: &mut [u8]) -> WholeReply {
     accept_whole(record, area, buffer).unwrap_or_else(WholeReply::from)
 }
 
-fn accept_load(record: &[u8], area: &mut [i32]) -> Result<LoadReply, Refusal> {
+pub(crate) fn accept_load(record: &[u8], area: &mut [i32]) -> Result<LoadReply, Refusal> {
     let matrix = parse_matrix(record)?;
     let area = lent_area(area)?;
     test_heard(&matrix)?;
@@ -53,7 +53,7 @@ fn accept_load(record: &[u8], area: &mut [i32]) -> Result<LoadReply, Refusal> {
     })
 }
 
-fn accept_run(job: Job, allowance: u16, area: &mut [i32]) -> Result<RunReply, Refusal> {
+pub(crate) fn accept_run(job: Job, allowance: u16, area: &mut [i32]) -> Result<RunReply, Refusal> {
     let area = lent_area(area)?;
     test_job(job)?;
     let count = u32::from(allowance).min(TURNS - job.turn);
@@ -68,7 +68,11 @@ fn accept_run(job: Job, allowance: u16, area: &mut [i32]) -> Result<RunReply, Re
     })
 }
 
-fn accept_fetch(job: Job, area: &[i32], buffer: &mut [u8]) -> Result<FetchReply, Refusal> {
+pub(crate) fn accept_fetch(
+    job: Job,
+    area: &[i32],
+    buffer: &mut [u8],
+) -> Result<FetchReply, Refusal> {
     let words = area.first_chunk().ok_or(Refusal::Area)?;
     test_job(job)?;
     if !job.is_finished() {
@@ -117,7 +121,7 @@ fn make_turns(work: &mut WorkArea, first: u32, count: u32) -> (u32, Clamps) {
 }
 
 /// Test 3, and the words that a call may touch.
-fn lent_area(area: &mut [i32]) -> Result<&mut [i32; AREA_WORDS], Refusal> {
+pub(crate) fn lent_area(area: &mut [i32]) -> Result<&mut [i32; AREA_WORDS], Refusal> {
     area.first_chunk_mut().ok_or(Refusal::Area)
 }
 
@@ -131,7 +135,7 @@ fn test_heard(matrix: &Matrix) -> Result<(), Refusal> {
 }
 
 /// Test 5.
-fn test_job(job: Job) -> Result<(), Refusal> {
+pub(crate) fn test_job(job: Job) -> Result<(), Refusal> {
     if job.exists() {
         Ok(())
     } else {

@@ -6,9 +6,10 @@
 //! lent words in, works on its copy and copies the outcome back.
 //!
 //! [`calls`] has the five calls of the factorization, [`job`] what a host hands from one to the
-//! next, [`covariance`] the three that make a matrix record of snapshots, and [`weights`] the one
-//! that solves for weights. [`accuracy`] has the exact errors of a worked matrix, [`cases`] and
-//! [`random`] the test matrices. [`listing`] and [`program`] say what the programs have to write.
+//! next, [`covariance`] the three that make a matrix record of snapshots, [`weights`] the one that
+//! solves for weights, and [`desk`] those for the eight sectors of a hub. [`accuracy`] has the exact
+//! errors of a worked matrix, [`cases`] and [`random`] the test matrices. [`listing`] and
+//! [`program`] say what the programs have to write.
 
 pub mod accuracy;
 pub mod area;
@@ -16,6 +17,7 @@ pub mod calls;
 pub mod cases;
 pub mod clamps;
 pub mod covariance;
+pub mod desk;
 pub mod job;
 pub mod listing;
 pub mod matrix;

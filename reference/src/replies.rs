@@ -29,6 +29,10 @@ pub enum Refusal {
     Sums = 10,
     /// A diagonal word of R is 0.
     ZeroDiagonal = 11,
+    /// The sector is above 7.
+    Sector = 12,
+    /// A request above 0 for an unfinished job, and the round has no turn left.
+    RoundUsedUp = 13,
 }
 
 impl Refusal {

@@ -7,7 +7,7 @@ use native.Mathlib.Omega.{arith}
 use lib.ListN.{length}
 use Rattle.lists.specs.Lists.{sumOf}
 use Rattle.lists.specs.Histories.{afterAll, Each}
-use Rattle.lists.proofs.Histories.{Along, each-of}
+use Rattle.lists.proofs.Histories.{Along, each-of, along-of}
 use Rattle.engine.specs.Run.{runDone, runBy, runOf}
 use Rattle.engine.proofs.Accepted.{run-passes}
 use Rattle.accuracy.specs.Demand3.{Call, run, fetch, State, Accepted, InStep, after, Load, start, EachInStep}
@@ -93,15 +93,6 @@ instalments-possible l budgets buffer = record {
 
 -- ---- refused calls anywhere
 
--- what holds at every place holds call by call
-along-of : (s : State) (calls : List Call) → Each after Stepping s calls → Along after Stepping s calls
-unfolding Along afterAll
-along-of s [] each = tt
-along-of s (c ∷ calls) each = (
-  each c (record { before = []; rest = calls; is = refl }),
-  along-of (after s c) calls (λ d p. each d (record { before = c ∷ p .before; rest = p .rest; is = ap (λ (t : List Call). c ∷ t) (p .is) })),
-)
-
 module _ (b : List Call) (c : Call) where
   put-in : (s : State) (a : List Call) → (Accepted (afterAll after s a) c → ⊥) → Along after Stepping s (a ++ b) → Along after Stepping s (a ++ c ∷ b)
   unfolding Along afterAll
@@ -116,4 +107,4 @@ module _ (b : List Call) (c : Call) where
 pub refused-anywhere : RefusedAnywhere
 unfolding EachInStep
 refused-anywhere l a b c each n =
-    (each-of after Stepping (start l) (a ++ c ∷ b) (put-in b c (start l) a n (along-of (start l) (a ++ b) each)), same-end b c (start l) a n)
+    (each-of after Stepping (start l) (a ++ c ∷ b) (put-in b c (start l) a n (along-of after Stepping (start l) (a ++ b) each)), same-end b c (start l) a n)

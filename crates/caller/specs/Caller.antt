@@ -1,4 +1,4 @@
--- Calls one after the other, each on the words and the job, or on the sums, that the one before left: all replies, and what is left in every
+-- Calls one after the other, each on the words and the job, on the sums or on the desk, that the one before left: all replies, and what is left in every
 -- lent buffer, on all inputs. Assumes nothing.
 use mathlib.Core.List.{List}
 use Prim.Native.Nat.{ℕ}
@@ -13,11 +13,19 @@ use Rattle.covariance.specs.Sums.{sumsNone}
 use Rattle.covariance.specs.AddSnapshot.{addOf}
 use Rattle.covariance.specs.WriteMatrix.{writeOf}
 use Rattle.weights.specs.Weights.{weightsOf}
+use Rattle.desk.specs.declared.Desk.{Desk}
+use Rattle.desk.specs.Desk.{newDesk, beginOf}
+use Rattle.desk.specs.Load.{deskLoadOf}
+use Rattle.desk.specs.Run.{deskRunOf}
+use Rattle.desk.specs.Fetch.{deskFetchOf}
+use Rattle.desk.specs.Heard.{deskHeardOf}
 use Rattle.caller.specs.declared.HalvesReply.{HalvesReply}
 use Rattle.caller.specs.declared.AgainReply.{AgainReply}
 use Rattle.caller.specs.declared.CopyReply.{CopyReply}
 use Rattle.caller.specs.declared.PairReply.{PairReply}
 use Rattle.caller.specs.declared.WeighedReply.{WeighedReply}
+use Rattle.caller.specs.declared.ServedReply.{ServedReply}
+use Rattle.caller.specs.declared.RoundReply.{RoundReply}
 
 pub record HalvesOutcome : Type 0 where
   pub reply : HalvesReply
@@ -84,3 +92,27 @@ unfoldable pub weighedOf : List ℕ → List Sample → List ℤ → List ℕ �
 weighedOf rec targets workspace buffer =
     let done = wholeOf rec workspace buffer in
     record { reply = record { whole = done .reply; weights = weightsOf (done .buffer) targets }; workspace = done .workspace; buffer = done .buffer }
+
+pub record ServedOutcome : Type 0 where
+  pub reply : ServedReply
+  pub area : List ℤ
+  pub buffer : List ℕ
+
+-- at a new desk, for one sector: Load, Run with a request of 120, and Fetch
+unfoldable pub servedOf : ℕ → List ℕ → List ℤ → List ℕ → ServedOutcome
+servedOf sector rec area buffer =
+    let loaded = deskLoadOf newDesk sector rec area in
+    let ran = deskRunOf (loaded .reply .desk) sector 120 (loaded .area) in
+    let fetched = deskFetchOf (ran .reply .desk) sector (ran .area) buffer in
+    record { reply = record { load = loaded .reply; run = ran .reply; fetch = fetched .reply }; area = ran .area; buffer = fetched .buffer }
+
+pub record RoundOutcome : Type 0 where
+  pub reply : RoundReply
+  pub area : List ℤ
+
+-- at any desk: the begin of a round, Run, and the heard byte
+unfoldable pub roundOf : Desk → ℕ → ℕ → List ℤ → RoundOutcome
+roundOf desk sector request area =
+    let begun = beginOf desk in
+    let ran = deskRunOf (begun .desk) sector request area in
+    record { reply = record { begun = begun; run = ran .reply; heard = deskHeardOf (ran .reply .desk) sector }; area = ran .area }

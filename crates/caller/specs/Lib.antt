@@ -1,2 +1,2 @@
--- What a caller of the five calls answers and leaves.
+-- What a caller of all calls answers and leaves.
 pub mod Caller

@@ -1,6 +1,11 @@
 // A caller of all calls, proved from their contracts alone: a factorization in two instalments, a stored result fetched again, a copy of a result,
-// the matrix of two snapshots, and the weights of a matrix. Each answers the replies of all calls that it makes, so that whoever calls it sees the first refusal. The words here are document
-// 01's own.
+// the matrix of two snapshots, the weights of a matrix, a sector served at a desk, and a round begun there. Each answers the replies of all calls that it makes, so that
+// whoever calls it sees the first refusal. The words here are document 01's own.
+use desk::Desk;
+use desk::DeskReply;
+use desk::heard::DeskHeardReply;
+use desk::load::DeskLoadReply;
+use desk::run::DeskRunReply;
 use engine::job::Job;
 use engine::load::LoadReply;
 use engine::read::ReadReply;
@@ -9,7 +14,7 @@ use engine::whole::WholeReply;
 use hubqr::snapshots::Snapshot;
 use weights::WeightsReply;
 ghost use mathlib.Core.Path.{_≡_};
-ghost use Rattle.caller.specs.Caller.{HalvesOutcome, halvesOf, AgainOutcome, againOf, CopyOutcome, copyOf, PairOutcome, pairOf, WeighedOutcome, weighedOf};
+ghost use Rattle.caller.specs.Caller.{HalvesOutcome, halvesOf, AgainOutcome, againOf, CopyOutcome, copyOf, PairOutcome, pairOf, WeighedOutcome, weighedOf, ServedOutcome, servedOf, RoundOutcome, roundOf};
 
 // The turns of one instalment: half of them.
 const HALF: u16 = 60;
@@ -45,6 +50,20 @@ pub struct PairReply {
 pub struct WeighedReply {
     pub whole: WholeReply,
     pub weights: WeightsReply,
+}
+
+// The replies of Load, Run and Fetch for a sector.
+pub struct ServedReply {
+    pub load: DeskLoadReply,
+    pub run: DeskRunReply,
+    pub fetch: DeskReply,
+}
+
+// The replies of the begin of a round, of Run and of the call for the heard byte.
+pub struct RoundReply {
+    pub begun: DeskReply,
+    pub run: DeskRunReply,
+    pub heard: DeskHeardReply,
 }
 
 // Load, the turns in two halves, and Fetch.
@@ -114,4 +133,25 @@ pub fn factor_and_weigh(
         whole: factored,
         weights,
     }
+}
+
+// A sector is served at a new desk: Load, all turns, and Fetch. Each call is handed the desk that the one before answered.
+pub fn serve_sector(sector: u32, bytes: &[u8], area: &mut [i32], buffer: &mut [u8]) -> ServedReply
+    ensures { λ r. ⌜ record { reply = r; area = now (area .exit); buffer = now (buffer .exit) } ≡ servedOf sector (now (bytes .entry)) (now (area .entry)) (now (buffer .entry)) ⌝ }
+{
+    let new = hubqr::sectors::hubqr_desk_new();
+    let load = hubqr::sectors::hubqr_desk_load(new, sector, bytes, area);
+    let run = hubqr::sectors::hubqr_desk_run(load.desk, sector, 120, area);
+    let fetch = hubqr::sectors::hubqr_desk_fetch(run.desk, sector, area, buffer);
+    ServedReply { load, run, fetch }
+}
+
+// A round begins at any desk, and a sector has turns of it, and is asked for its heard byte.
+pub fn begin_and_run(desk: Desk, sector: u32, request: u16, area: &mut [i32]) -> RoundReply
+    ensures { λ r. ⌜ record { reply = r; area = now (area .exit) } ≡ roundOf desk sector request (now (area .entry)) ⌝ }
+{
+    let begun = hubqr::sectors::hubqr_desk_begin(desk);
+    let run = hubqr::sectors::hubqr_desk_run(begun.desk, sector, request, area);
+    let heard = hubqr::sectors::hubqr_desk_heard(run.desk, sector);
+    RoundReply { begun, run, heard }
 }

@@ -1,12 +1,18 @@
 -- Laws of lists of calls: what each call keeps holds at every point; what holds call by call holds at every place; calls that change nothing may stand
 -- anywhere. Assumes nothing.
 use mathlib.Core.Path.{_≡_, refl, ap, _∙_, subst}
-use mathlib.Core.List.{List, [], _∷_, _++_}
+use mathlib.Core.List.{List, [], _∷_, _++_, append-assoc}
 use native.Mathlib.Omega.{arith}
 use lib.ListN.{length, length-append}
 use Rattle.lists.specs.Histories.{afterAll, Place, Point, Each}
 
 module _ {S C : Type 0} (next : S → C → S) where
+  -- ---- one list after another
+  pub after-append : (s : S) (a b : List C) → afterAll next s (a ++ b) ≡ afterAll next (afterAll next s a) b
+  unfolding afterAll
+  after-append s [] b = refl
+  after-append s (c ∷ a) b = after-append (next s c) a b
+
   -- ---- an invariant: what holds at the start, and after each call of which Q holds
   module _ (P : S → Type 0) (Q : S → C → Type 0) (step : (s : S) (c : C) → P s → Q s c → P (next s c)) where
     kept-over : (s : S) (before rest : List C) → P s → ((a b : List C) (c : C) → before ++ rest ≡ a ++ c ∷ b → Q (afterAll next s a) c) → P (afterAll next s before)
@@ -39,6 +45,25 @@ module _ {S C : Type 0} (next : S → C → S) where
 
     pub each-of : (s : S) (calls : List C) → Along s calls → Each next Q s calls
     each-of s calls a c p = along-at s calls (p .before) (p .rest) c a (p .is)
+
+    -- what holds at every place holds call by call, and at every place of the calls up to a point
+    pub along-of : (s : S) (calls : List C) → Each next Q s calls → Along s calls
+    unfolding Along afterAll
+    along-of s [] each = tt
+    along-of s (c ∷ calls) each = (
+      each c (record { before = []; rest = calls; is = refl }),
+      along-of (next s c) calls (λ d p. each d (record { before = c ∷ p .before; rest = p .rest; is = ap (λ (t : List C). c ∷ t) (p .is) })),
+    )
+
+    pub each-before : (s : S) (calls : List C) (p : Point calls) → Each next Q s calls → Each next Q s (p .before)
+    each-before s calls p each c q =
+        each c (record { before = q .before; rest = q .rest ++ p .rest; is = p .is ∙ ap (λ (t : List C). t ++ p .rest) (q .is) ∙ append-assoc (q .before) (c ∷ q .rest) (p .rest) })
+
+    -- one list after another
+    pub along-append : (s : S) (a b : List C) → Along s a → Along (afterAll next s a) b → Along s (a ++ b)
+    unfolding Along afterAll
+    along-append s [] b x y = y
+    along-append s (c ∷ a) b x y = (x .0, along-append (next s c) a b (x .1) y)
 
   -- ---- calls that leave the state s as it is
   unfoldable pub Idle : S → List C → Type 0

@@ -53,6 +53,14 @@ sumsOutOfRange = 10
 abbrev pub zeroDiagonal : ℕ
 zeroDiagonal = 11
 
+-- sector above 7 (document 02, U7)
+abbrev pub noSuchSector : ℕ
+noSuchSector = 12
+
+-- turns are asked for, for an unfinished job, and the round has none left (document 02, U7)
+abbrev pub roundUsedUp : ℕ
+roundUsedUp = 13
+
 -- ---- tests in sequence
 
 -- the first of two numbers that is not 0

@@ -25,6 +25,10 @@ pub const SUMS_OUT_OF_RANGE: u8 = 10;
 
 pub const ZERO_DIAGONAL: u8 = 11;
 
+pub const NO_SUCH_SECTOR: u8 = 12;
+
+pub const ROUND_USED_UP: u8 = 13;
+
 // Tests 1 and 2 of a record that has this tag and this length: the number of the first that fails, 0 for none.
 pub fn header_refusal(bytes: &[u8], tag: u8, size: usize) -> u8
     ensures { λ r. ⌜ r ≡ headerTest tag size (now (bytes .entry)) ⌝ }

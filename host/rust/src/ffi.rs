@@ -127,6 +127,81 @@ pub struct WeightsReply {
     pub weights: [Weight; 8],
 }
 
+/// How far the work for the eight sectors of a hub is, and what the round has left: 76 plain bytes
+/// that the caller keeps from call to call. Its methods are the calls.
+///
+/// Each call needs the desk that the last one left. An older desk, such as a clone that was kept, is
+/// not noticed: its round grants turns a second time, and its jobs no longer fit their areas.
+///
+/// A desk that a caller has made up is taken as it is by every call. A job that
+/// [`run`](crate::run) would refuse with [`Refusal::NoSuchJob`](crate::Refusal::NoSuchJob) is refused
+/// so here, until its sector is loaded again. What is said of a sector that was loaded, or never
+/// loaded, is for desks that came from [`new`](Desk::new) and are changed by the calls alone.
+#[repr(C)]
+#[derive(Clone, Debug, PartialEq, Eq)]
+pub struct Desk {
+    /// The job of sector k at place k. It is (120, 0) until the sector is loaded for the first time.
+    pub jobs: [Job; 8],
+    /// The heard byte of sector k at place k. It is 0 until the sector is loaded for the first time.
+    pub heard: [u8; 8],
+    /// The turns that the round has left.
+    pub left: u16,
+}
+
+/// What beginning a round and a sector's Fetch answer.
+#[repr(C)]
+#[derive(Clone, Debug, PartialEq, Eq)]
+pub struct DeskReply {
+    /// The desk to hand to the next call; of a refused call, the one that it was handed.
+    pub desk: Desk,
+    /// 0, or the refusal's number.
+    pub number: u8,
+}
+
+/// What a sector's Load answers.
+#[repr(C)]
+#[derive(Clone, Debug, PartialEq, Eq)]
+pub struct DeskLoadReply {
+    /// The desk to hand to the next call; of a refused call, the one that it was handed.
+    pub desk: Desk,
+    /// 0, or the refusal's number.
+    pub number: u8,
+    /// The sector's heard byte.
+    pub heard: u8,
+    /// The sector's job: (0, 0); of a refused call, (0, 0) too, and the desk has the sector's job.
+    pub job: Job,
+}
+
+/// What a sector's Run answers.
+#[repr(C)]
+#[derive(Clone, Debug, PartialEq, Eq)]
+pub struct DeskRunReply {
+    /// The desk to hand to the next call; of a refused call, the one that it was handed.
+    pub desk: Desk,
+    /// 0, or the refusal's number.
+    pub number: u8,
+    /// The sector's job; of a refused call, (0, 0), unlike that of [`RunReply`].
+    pub job: Job,
+    /// The turns granted, the skipped ones included.
+    pub count: u32,
+    /// The clamps counted in this call in columns 0 to 15, which hold R.
+    pub clamps_r: u32,
+    /// The clamps counted in this call in columns 16 to 31, which hold Q.
+    pub clamps_q: u32,
+}
+
+/// What asking for a sector's heard byte answers.
+#[repr(C)]
+#[derive(Clone, Debug, PartialEq, Eq)]
+pub struct DeskHeardReply {
+    /// The desk that was handed over.
+    pub desk: Desk,
+    /// 0, or the refusal's number.
+    pub number: u8,
+    /// The sector's heard byte.
+    pub heard: u8,
+}
+
 extern "C" {
     /// The archive's version: 10000 * major + 100 * minor + patch.
     pub fn hubqr_version() -> u32;
@@ -180,4 +255,42 @@ extern "C" {
 
     /// Works out the weights that a result record gives for eight targets.
     pub fn hubqr_weights(record: *const u8, record_len: usize, targets: Snapshot) -> WeightsReply;
+
+    /// A new desk: no sector is loaded, and the round has 120 turns left.
+    pub fn hubqr_desk_new() -> Desk;
+
+    /// Begins a round of 120 turns.
+    pub fn hubqr_desk_begin(desk: Desk) -> DeskReply;
+
+    /// Fills a sector's area from a matrix record.
+    pub fn hubqr_desk_load(
+        desk: Desk,
+        sector: u32,
+        record: *const u8,
+        record_len: usize,
+        area: *mut i32,
+        area_len: usize,
+    ) -> DeskLoadReply;
+
+    /// Goes on by the smallest of `request`, what the round has left and what the sector's job has left.
+    pub fn hubqr_desk_run(
+        desk: Desk,
+        sector: u32,
+        request: u16,
+        area: *mut i32,
+        area_len: usize,
+    ) -> DeskRunReply;
+
+    /// Writes the result record of a sector's finished area.
+    pub fn hubqr_desk_fetch(
+        desk: Desk,
+        sector: u32,
+        area: *const i32,
+        area_len: usize,
+        buffer: *mut u8,
+        buffer_len: usize,
+    ) -> DeskReply;
+
+    /// Answers a sector's heard byte.
+    pub fn hubqr_desk_heard(desk: Desk, sector: u32) -> DeskHeardReply;
 }

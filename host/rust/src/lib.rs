@@ -47,6 +47,11 @@
 //! matrix A that was factored and eight **targets** t. [`weights()`] works them out from a result
 //! record.
 //!
+//! The **desk** serves a hub's eight **sectors**, each with its own job, heard byte and area, by
+//! **rounds** that have 120 turns for all sectors together. [`Desk`] holds the jobs, the heard bytes
+//! and what the round has left; its methods are the calls; all but `new` and `begin` are for one
+//! sector.
+//!
 //! Areas and buffers may be longer than needed: what lies behind is not touched. A refused call
 //! changes nothing that it was lent.
 //!
@@ -99,6 +104,30 @@
 //! # assert_eq!(hubqr::load(&record, &mut [0; hubqr::AREA_WORDS])?.heard, 0xff);
 //! # Ok::<(), hubqr::Refusal>(())
 //! ```
+//!
+//! # For several sectors
+//!
+//! ```
+//! # let records = [[1; hubqr::MATRIX_RECORD_BYTES]; 2];
+//! let mut areas = [[0; hubqr::AREA_WORDS]; 2];
+//! let mut desk = hubqr::Desk::new();
+//! for (sector, area) in (0..).zip(&mut areas) {
+//!     desk.load(sector, &records[sector as usize], area)?;
+//! }
+//! while desk.jobs.iter().any(|job| !job.is_finished()) {
+//!     desk.begin()?; // 120 turns for all sectors together
+//!     for (sector, area) in (0..).zip(&mut areas) {
+//!         desk.run(sector, 15, area)?; // 120 are enough for eight sectors with 15 each
+//!         // other work goes here
+//!     }
+//! }
+//! let mut result = [0; hubqr::RESULT_RECORD_BYTES];
+//! for (sector, area) in (0..).zip(&areas) {
+//!     desk.fetch(sector, area, &mut result)?;
+//!     assert_eq!(desk.heard(sector)?, 0xff);
+//! }
+//! # Ok::<(), hubqr::Refusal>(())
+//! ```
 #![no_std]
 #![warn(missing_docs)]
 
@@ -106,6 +135,8 @@
 mod calls;
 #[cfg(feature = "archive")]
 mod covariance;
+#[cfg(feature = "archive")]
+mod desk;
 #[cfg(feature = "archive")]
 pub mod ffi;
 mod refusal;
@@ -119,7 +150,7 @@ pub use calls::{Clamps, Factored, Loaded, Progress, Restored};
 #[cfg(feature = "archive")]
 pub use covariance::Covariance;
 #[cfg(feature = "archive")]
-pub use ffi::{Job, Sample, Weight};
+pub use ffi::{Desk, Job, Sample, Weight};
 pub use refusal::{Refusal, UnknownNumber};
 #[cfg(feature = "archive")]
 pub use weights::weights;
@@ -160,6 +191,11 @@ pub const HEARD_ABOVE: i16 = 16;
 pub const SNAPSHOTS_MAX: u32 = 4096;
 /// Sums that snapshots add up to: two for each of the 64 elements of the matrix.
 pub const SUM_WORDS: usize = 128;
+
+/// Sectors of a hub.
+pub const SECTORS: usize = 8;
+/// Turns that a round has for all sectors together.
+pub const ROUND_TURNS: u16 = 120;
 
 /// First byte of a matrix record.
 pub const KIND_MATRIX: u8 = 1;

@@ -57,6 +57,8 @@ refusals! {
     SumsOutOfRange = 10, "4,096 snapshots have been added already, the count is above that, \
                           or a sum is beyond 2^31 times the count";
     ZeroDiagonal = 11, "one of R's 16 diagonal words is 0";
+    NoSuchSector = 12, "the sector is above 7";
+    RoundUsedUp = 13, "turns are requested for an unfinished job, and the round has none left";
 }
 
 impl Refusal {

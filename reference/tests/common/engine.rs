@@ -5,6 +5,7 @@
 use hubqr::ffi;
 use reference::clamps::Clamps;
 use reference::covariance::Snapshot;
+use reference::desk::{Desk, DeskReply, Seat};
 use reference::job::Job;
 use reference::replies::{FetchReply, LoadReply, ReadReply, RunReply, WholeReply};
 use reference::weights::WeightsReply;
@@ -125,5 +126,97 @@ pub fn weights(record: &mut [u8], targets: &Targets) -> WeightsReply {
     WeightsReply {
         number: reply.number,
         weights: reply.weights.map(|weight| (weight.re, weight.im)),
+    }
+}
+
+/// The jobs of all sectors, their heard bytes, and what the round has left.
+fn handed_desk(Desk { seats, left }: &Desk) -> ffi::Desk {
+    ffi::Desk {
+        jobs: seats.map(|seat| handed(seat.job)),
+        heard: seats.map(|seat| seat.heard),
+        left: *left,
+    }
+}
+
+fn answered_desk(ffi::Desk { jobs, heard, left }: ffi::Desk) -> Desk {
+    let seat = |k| Seat {
+        job: answered(jobs[k]),
+        heard: heard[k],
+    };
+    Desk {
+        seats: std::array::from_fn(seat),
+        left,
+    }
+}
+
+pub fn desk_new() -> Desk {
+    answered_desk(unsafe { ffi::hubqr_desk_new() })
+}
+
+pub fn desk_begin(desk: &Desk) -> DeskReply {
+    let reply = unsafe { ffi::hubqr_desk_begin(handed_desk(desk)) };
+    DeskReply {
+        number: reply.number,
+        ..DeskReply::from(answered_desk(reply.desk))
+    }
+}
+
+pub fn desk_load(desk: &Desk, sector: u32, record: &mut [u8], area: &mut [i32]) -> DeskReply {
+    let reply = unsafe {
+        ffi::hubqr_desk_load(
+            handed_desk(desk),
+            sector,
+            record.as_mut_ptr(),
+            record.len(),
+            area.as_mut_ptr(),
+            area.len(),
+        )
+    };
+    DeskReply {
+        number: reply.number,
+        heard: reply.heard,
+        job: answered(reply.job),
+        ..DeskReply::from(answered_desk(reply.desk))
+    }
+}
+
+pub fn desk_run(desk: &Desk, sector: u32, request: u16, area: &mut [i32]) -> DeskReply {
+    let (desk, words) = (handed_desk(desk), area.len());
+    let reply = unsafe { ffi::hubqr_desk_run(desk, sector, request, area.as_mut_ptr(), words) };
+    DeskReply {
+        number: reply.number,
+        job: answered(reply.job),
+        count: reply.count,
+        clamps: Clamps {
+            r: reply.clamps_r,
+            q: reply.clamps_q,
+        },
+        ..DeskReply::from(answered_desk(reply.desk))
+    }
+}
+
+pub fn desk_fetch(desk: &Desk, sector: u32, area: &mut [i32], buffer: &mut [u8]) -> DeskReply {
+    let reply = unsafe {
+        ffi::hubqr_desk_fetch(
+            handed_desk(desk),
+            sector,
+            area.as_mut_ptr(),
+            area.len(),
+            buffer.as_mut_ptr(),
+            buffer.len(),
+        )
+    };
+    DeskReply {
+        number: reply.number,
+        ..DeskReply::from(answered_desk(reply.desk))
+    }
+}
+
+pub fn desk_heard(desk: &Desk, sector: u32) -> DeskReply {
+    let reply = unsafe { ffi::hubqr_desk_heard(handed_desk(desk), sector) };
+    DeskReply {
+        number: reply.number,
+        heard: reply.heard,
+        ..DeskReply::from(answered_desk(reply.desk))
     }
 }

@@ -4,6 +4,7 @@
 // Every test file compiles this module for itself and uses a part of it.
 #![allow(dead_code)]
 
+pub mod desk;
 mod engine;
 pub mod heard;
 pub mod snapshots;
@@ -167,7 +168,7 @@ impl Both {
             self.loaded = self.loaded.and_then(|loaded| loaded.after(job, next));
             if count > 0 {
                 self.worked = None;
-                self.require_worked_if_finished();
+                self.hold_if_worked();
             }
         } else {
             let nothing = next == job && count == 0 && engine.clamps == Clamps::NONE;
@@ -203,7 +204,7 @@ impl Both {
         self.require(lent == record, "Whole changed the record");
         if reference.number == 0 {
             self.loaded = None;
-            self.require_worked(Loaded::new(record));
+            self.hold(Loaded::new(record));
         }
         reference
     }

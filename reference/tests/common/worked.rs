@@ -1,7 +1,8 @@
 //! The promise of accuracy, held to in every test: of a matrix that Load accepted and that calls in
-//! step worked to the end, and of one that Whole accepted.
+//! step worked to the end, at the desk or without it, and of one that Whole accepted.
 
 use reference::accuracy::Errors;
+use reference::area::WorkArea;
 use reference::job::Job;
 use reference::matrix::RealMatrix;
 use reference::records::parse_matrix;
@@ -31,24 +32,36 @@ impl Loaded {
         let input = self.input;
         (self.job == job).then_some(Loaded { input, job: next })
     }
+
+    /// Whether the last turn is done.
+    pub fn is_worked(self) -> bool {
+        self.job.is_finished()
+    }
+
+    /// The errors of the R and Q that an area holds of this matrix. Fails the test, naming the
+    /// case, unless they are what is promised.
+    pub fn require_worked(self, area: &WorkArea, named: impl Fn() -> String) -> Errors {
+        let require = |holds: bool, otherwise: &str| assert!(holds, "{otherwise}\n{}", named());
+        require(area.is_upper_triangular(), "R is not upper triangular");
+        let signs = "one of R's first 15 diagonal words is negative";
+        require(area.has_nonnegative_diagonal(), signs);
+        let errors = Errors::of(&self.input, area);
+        require(errors.are_within(), &format!("inaccurate: {errors:?}"));
+        errors
+    }
 }
 
 impl Both {
     /// Holds a loaded matrix to the promise, once the last turn is done.
-    pub(super) fn require_worked_if_finished(&mut self) {
-        if let Some(loaded) = self.loaded.filter(|loaded| loaded.job.is_finished()) {
-            self.require_worked(loaded);
+    pub(super) fn hold_if_worked(&mut self) {
+        if let Some(loaded) = self.loaded.filter(|loaded| loaded.is_worked()) {
+            self.hold(loaded);
         }
     }
 
-    /// Fails the test unless the area holds an accurate R and Q of a matrix.
-    pub(super) fn require_worked(&mut self, loaded: Loaded) {
-        let area = self.area();
-        self.require(area.is_upper_triangular(), "R is not upper triangular");
-        let signs = "one of R's first 15 diagonal words is negative";
-        self.require(area.has_nonnegative_diagonal(), signs);
-        let errors = Errors::of(&loaded.input, &area);
-        self.require(errors.are_within(), &format!("inaccurate: {errors:?}"));
+    /// Holds a matrix to the promise, all of whose turns are done.
+    pub(super) fn hold(&mut self, loaded: Loaded) {
+        let errors = loaded.require_worked(&self.area(), || self.named());
         self.worked = Some(errors);
     }
 

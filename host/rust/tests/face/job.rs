@@ -17,7 +17,8 @@ fn half_empty() -> Vec<u8> {
     })
 }
 
-fn element(row: usize, column: usize) -> (i16, i16) {
+/// Element (row, column) of the full one, as a pair of its parts.
+pub fn element(row: usize, column: usize) -> (i16, i16) {
     let n = 8 * row as i32 + column as i32;
     let part = |number: i32| (number % 65536 - 32768) as i16;
     let (re, im) = (7919 * n * n + 123 * n + 7, 4447 * n * n * n + 5 * n + 77);

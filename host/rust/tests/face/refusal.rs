@@ -30,6 +30,11 @@ fn each_has_words_of_its_own() {
         Refusal::ZeroDiagonal.to_string(),
         "one of R's 16 diagonal words is 0"
     );
+    assert_eq!(Refusal::NoSuchSector.to_string(), "the sector is above 7");
+    assert_eq!(
+        Refusal::RoundUsedUp.to_string(),
+        "turns are requested for an unfinished job, and the round has none left"
+    );
     assert_eq!(UnknownNumber(0).to_string(), "0 is no refusal number");
 }
 

@@ -1,0 +1,8 @@
+//! Sectors served by a desk, timed in rounds of their own.
+
+mod agree;
+pub mod contenders;
+mod measure;
+pub mod report;
+pub mod rounds;
+mod versions;

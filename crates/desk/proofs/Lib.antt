@@ -1,0 +1,2 @@
+-- Laws of the calls that several proofs cite.
+pub mod Accepted

@@ -1,0 +1,50 @@
+-- Run for a sector: what it answers and what it leaves in the area, on all inputs. Assumes nothing.
+use Prim.Native.Nat.{ℕ, zero, suc, _-_, min}
+use mathlib.Core.Bool.{_&&_}
+use mathlib.Core.List.{List}
+use lib.Dec.{ltb, eqb}
+use lib.IntN.{ℤ}
+use Rattle.refusals.specs.Refusals.{roundUsedUp, first, failsIf}
+use Rattle.schedule.specs.Schedule.{rotationCount}
+use Rattle.engine.specs.declared.job.Job.{Job}
+use Rattle.engine.specs.Job.{noJob}
+use Rattle.engine.specs.Run.{runRefusal, runDone}
+use Rattle.desk.specs.declared.Desk.{Desk}
+use Rattle.desk.specs.declared.run.DeskRunReply.{DeskRunReply}
+use Rattle.desk.specs.Desk.{sectorTest, jobOf, paid}
+
+pub record DeskRunOutcome : Type 0 where
+  pub reply : DeskRunReply
+  pub area : List ℤ
+
+-- 13: a request above 0 for an unfinished job when the round has none left
+unfoldable pub roundTest : Job → ℕ → ℕ → ℕ
+roundTest job left request = failsIf (ltb 0 request && (ltb (job .turn) rotationCount && eqb left 0)) roundUsedUp
+
+-- test 12, the engine's tests for Run, and then 13
+unfoldable pub deskRunRefusal : Desk → ℕ → ℕ → List ℤ → ℕ
+deskRunRefusal desk sector request area =
+    first (sectorTest sector) (first (runRefusal (jobOf desk sector) area) (roundTest (jobOf desk sector) (desk .left) request))
+
+-- the smallest of the request, what the round has left and what the job has left
+abbrev pub grant : Job → ℕ → ℕ → ℕ
+grant job left request = min (min request left) (rotationCount - job .turn)
+
+-- the sector's job is worked `count` turns on, as the engine's Run does it, and the round pays them
+unfoldable pub deskRunDone : Desk → ℕ → ℕ → List ℤ → DeskRunOutcome
+deskRunDone desk sector count area =
+    let o = runDone (jobOf desk sector) count area in
+    let r = o .reply in
+    record {
+      reply = record { desk = paid desk sector (r .job) count; number = 0; job = r .job; count = r .count; «clamps_r» = r .«clamps_r»; «clamps_q» = r .«clamps_q» };
+      area = o .workspace;
+    }
+
+-- by the number of the tests; a refusal answers its number and the desk as it was, other fields 0, the job too, and changes nothing
+unfoldable pub deskRunBy : ℕ → Desk → ℕ → ℕ → List ℤ → DeskRunOutcome
+deskRunBy zero desk sector request area = deskRunDone desk sector (grant (jobOf desk sector) (desk .left) request) area
+deskRunBy (suc n) desk sector request area =
+    record { reply = record { desk = desk; number = suc n; job = noJob; count = 0; «clamps_r» = 0; «clamps_q» = 0 }; area = area }
+
+unfoldable pub deskRunOf : Desk → ℕ → ℕ → List ℤ → DeskRunOutcome
+deskRunOf desk sector request area = deskRunBy (deskRunRefusal desk sector request area) desk sector request area

@@ -1,0 +1,55 @@
+// What the calls read and change of one sector.
+use crate::Desk;
+use engine::job::Job;
+ghost use mathlib.Core.Path.{_≡_};
+ghost use Prim.Native.Nat.{_<_, _≤_};
+ghost use Rattle.desk.specs.Desk.{sectorCount, sectorTest, jobOf, heardOf, seated, paid};
+
+// The number of test 12 if it fails, else 0.
+pub fn sector_refusal(sector: u32) -> u8
+    ensures { λ r. ⌜ r ≡ sectorTest sector ⌝ }
+{
+    if 7 < sector {
+        return refusals::NO_SUCH_SECTOR;
+    }
+    0
+}
+
+pub fn job_of(desk: Desk, sector: u32) -> Job
+    requires { ⌜ sector < sectorCount ⌝ }
+    ensures { λ r. ⌜ r ≡ jobOf desk sector ⌝ }
+{
+    let jobs = desk.jobs;
+    jobs[sector as usize]
+}
+
+pub fn heard_of(desk: Desk, sector: u32) -> u8
+    requires { ⌜ sector < sectorCount ⌝ }
+    ensures { λ r. ⌜ r ≡ heardOf desk sector ⌝ }
+{
+    let heard = desk.heard;
+    heard[sector as usize]
+}
+
+// The sector has this job and this heard byte.
+pub fn seated(desk: Desk, sector: u32, job: Job, heard: u8) -> Desk
+    requires { ⌜ sector < sectorCount ⌝ }
+    ensures { λ r. ⌜ r ≡ seated desk sector job heard ⌝ }
+{
+    let mut seated = desk;
+    seated.jobs[sector as usize] = job;
+    seated.heard[sector as usize] = heard;
+    seated
+}
+
+// The sector has this job, for which the round pays `count` turns.
+pub fn paid(desk: Desk, sector: u32, job: Job, count: u16) -> Desk
+    requires { ⌜ (sector < sectorCount) × (count ≤ desk .left) ⌝ }
+    ensures { λ r. ⌜ r ≡ paid desk sector job count ⌝ }
+{
+    let left = desk.left - count;
+    let mut paid = desk;
+    paid.jobs[sector as usize] = job;
+    paid.left = left;
+    paid
+}

@@ -1,0 +1,69 @@
+-- A refused call changes nothing. Assumes nothing.
+use mathlib.Core.Path.{_≡_, refl, sym, ap, _∙_}
+use mathlib.Core.Bool.{Bool, true, false, cond}
+use mathlib.Core.List.{List, []}
+use Prim.Native.Nat.{ℕ, zero, suc}
+use borrow.Author.Tests.{eqb-true}
+use lib.Dec.{eqb}
+use lib.IntN.{ℤ}
+use Rattle.engine.specs.Fetch.{fetchBy}
+use Rattle.desk.specs.Desk.{sectorTest, beginOf}
+use Rattle.desk.specs.Load.{deskLoadRefusal, deskLoadBy, deskLoadOf}
+use Rattle.desk.specs.Run.{deskRunRefusal, deskRunDone, deskRunBy, deskRunOf}
+use Rattle.desk.specs.Fetch.{deskFetchRefusal, deskFetchBy, deskFetchOf}
+use Rattle.desk.specs.Heard.{deskHeardBy, deskHeardOf}
+use Rattle.desk_laws.specs.Calls.{Lent, Call, load, run, fetch, heard, begin, Hub, lentWords, leftIn, put, Answer, bare, answer, next, Accepted}
+use Rattle.desk_laws.specs.Refusals.{bufferLent, wordsLent, RefusalsChangeNothing}
+use Rattle.desk_laws.proofs.Seats.{left-same, loadHub, runHub, loadTold, runTold, fetchTold, heardTold}
+
+put-back : (h : Hub) (j : ℕ) (lent : Lent) (k : ℕ) → put (h .area) j (leftIn (h .area j) lent (lentWords (h .area j) lent)) k ≡ h .area k
+unfolding put
+put-back h j lent k = pick (eqb k j) (eqb-true k j)
+  where
+    pick : (b : Bool) → (b ≡ true → k ≡ j) → cond b (leftIn (h .area j) lent (lentWords (h .area j) lent)) (h .area k) ≡ h .area k
+    pick true f = left-same (h .area j) lent ∙ ap (h .area) (sym (f refl))
+    pick false f = refl
+
+-- the hub and the answer after a call, by the number that decides
+record Same (h g : Hub) (a : Answer) (buffer : List ℕ) (words : List ℤ) : Type 0 where
+  desk : g .desk ≡ h .desk
+  area : (i : ℕ) → g .area i ≡ h .area i
+  told : a ≡ bare (a .number) buffer words
+
+module _ (h : Hub) (i : ℕ) (lent : Lent) where
+  load-same : (rec : List ℕ) (n : ℕ) → (loadTold h i rec lent n .number ≡ 0 → ⊥) → Same h (loadHub h i rec lent n) (loadTold h i rec lent n) [] (lentWords (h .area i) lent)
+  unfolding deskLoadBy
+  load-same rec zero f = absurd (f refl)
+  load-same rec (suc n) f = record { desk = refl; area = put-back h i lent; told = refl }
+
+  run-same : (request n : ℕ) → (runTold h i request lent n .number ≡ 0 → ⊥) → Same h (runHub h i request lent n) (runTold h i request lent n) [] (lentWords (h .area i) lent)
+  unfolding deskRunBy deskRunDone
+  run-same request zero f = absurd (f refl)
+  run-same request (suc n) f = record { desk = refl; area = put-back h i lent; told = refl }
+
+  fetch-same : (buffer : List ℕ) (n : ℕ) → (n ≡ 0 → ⊥) → Same h h (fetchTold h i buffer lent n) buffer (lentWords (h .area i) lent)
+  unfolding deskFetchBy fetchBy
+  fetch-same buffer zero f = absurd (f refl)
+  fetch-same buffer (suc n) f = record { desk = refl; area = λ k. refl; told = refl }
+
+heard-same : (h : Hub) (i n : ℕ) → (heardTold h i n .number ≡ 0 → ⊥) → Same h (record { desk = deskHeardBy n (h .desk) i .desk; area = h .area }) (heardTold h i n) [] []
+unfolding deskHeardBy
+heard-same h i zero f = absurd (f refl)
+heard-same h i (suc n) f = record { desk = refl; area = λ k. refl; told = refl }
+
+same-by : (h : Hub) (c : Call) → (Accepted h c → ⊥) → Same h (next h c) (answer h c) (bufferLent c) (wordsLent h c)
+unfolding next answer deskLoadOf deskRunOf deskFetchOf deskFetchBy deskHeardOf beginOf
+same-by h (load i rec lent) f = load-same h i lent rec (deskLoadRefusal i rec (lentWords (h .area i) lent)) f
+same-by h (run i request lent) f = run-same h i lent request (deskRunRefusal (h .desk) i request (lentWords (h .area i) lent)) f
+same-by h (fetch i buffer lent) f = fetch-same h i lent buffer (deskFetchRefusal (h .desk) i (lentWords (h .area i) lent) buffer) f
+same-by h (heard i) f = heard-same h i (sectorTest i) f
+same-by h begin f = absurd (f refl)
+
+pub refusals-change-nothing : RefusalsChangeNothing
+refusals-change-nothing h c f =
+    let s = same-by h c f in
+    record {
+      desk = s .desk;
+      area = s .area;
+      answer = s .told;
+    }

@@ -1,0 +1,280 @@
+-- Demand 3 for each sector: the desk's account of it and demand 3's go side by side. Assumes nothing.
+use mathlib.Core.Path.{_≡_, refl, sym, ap, ap₂, _∙_, subst}
+use mathlib.Core.Logic.{_↔_}
+use mathlib.Core.List.{List, [], _∷_, _++_, append-assoc, append-nil}
+use Prim.Native.Nat.{ℕ, zero, suc, _+_, _-_, _≤_, _<_, min}
+use native.Mathlib.Omega.{arith}
+use lib.ListN.{length, drop}
+use Rattle.lists.specs.Histories.{afterAll, Place, Point}
+use Rattle.lists.proofs.Histories.{after-append, Along, along-of, along-append, each-of, each-before}
+use Rattle.refusals.proofs.Refusals.{first-none}
+use Rattle.matrix_record.specs.MatrixRecord.{realEntry}
+use Rattle.result_record.specs.ResultRecord.{resultRecord}
+use Rattle.workspace.specs.Workspace.{R, Q}
+use Rattle.engine.specs.Load.{loadBy, loadOf}
+use Rattle.engine.specs.Run.{runRefusal, nextJob, runDone, runBy, runOf}
+use Rattle.engine.specs.Fetch.{fetchOf}
+use Rattle.accuracy.specs.Factorization.{Factorization}
+use Rattle.accuracy.specs.Demand3.{Load, State, RunCall, FetchCall, ran, refusal, start, EachInStep, Kept}
+use Rattle.accuracy.specs.Demand3 as engine
+use Rattle.accuracy.proofs.Demand3.{demand3}
+use Rattle.accuracy.proofs.Possible.{Stepping}
+use Rattle.desk.specs.Desk.{jobOf}
+use Rattle.desk_laws.specs.Calls.{Lent, its, another, Call, load, run, fetch, heard, begin, Hub, new, lentWords, Answer, answer, next, after, Accepted, Kind, own, other, round, kind, Its, LentIts, OwnLent, EachLentIts}
+use Rattle.desk_laws.specs.Unloaded.{IsLoad, NoLoad, EachNoLoad}
+use Rattle.desk_laws.specs.Sectors.{engineRun, engineFetch, engineCall, engineCalls, reached, ranAnswer, fetchedAnswer, SectorDemand3}
+use Rattle.desk_laws.proofs.Seats.{Seat, seat, Eight, loadSeat, runSeat, loadNumber, runNumber, fetchNumber, seatGrant, ownNext, loadAnswer, runAnswer, fetchAnswer, ownAnswer, run-number-is, own-kind, own-next, own-answer, other-passes, round-next, eight-next, eight-after, eight-new}
+use Rattle.desk_laws.proofs.Refusals.{refusals-change-nothing}
+
+-- ---- a seat and a state of demand 3 side by side
+
+record Beside (a : Seat) (s : State) : Type 0 where
+  area : a .area ≡ s .workspace
+  job : a .job ≡ s .job
+  granted : a .job .turn ≡ s .granted
+
+-- one call of the seat, and the engine's calls for it: each of them is in step if it is accepted, and they stay side by side
+record Step (a : Seat) (s : State) (calls : List engine.Call) : Type 0 where
+  in-step : Along engine.after Stepping s calls
+  beside : Beside a (afterAll engine.after s calls)
+
+module _ (a : Seat) (s : State) (b : Beside a s) where
+  idle : Step a s []
+  unfolding Along afterAll
+  idle = record { in-step = tt; beside = b }
+
+  load-step : (j : ℕ) (rec : List ℕ) (lent : Lent) (n : ℕ) → (loadAnswer n rec (lentWords (a .area) lent) .number ≡ 0 → ⊥) → Step (loadSeat n a rec lent) s []
+  load-step j rec lent zero f = absurd (f refl)
+  load-step j rec lent (suc n) f = idle
+
+  -- an accepted Run, with the turns granted for its allowance
+  ran-is : (request : ℕ) → runNumber a request its ≡ 0 → ran s (engineRun (a .job) (seatGrant a request) its) ≡ runDone (a .job) (seatGrant a request) (a .area)
+  unfolding runOf runBy
+  ran-is request e =
+      let k = seatGrant a request in
+      let z : min k (120 - a .job .turn) ≡ k = omega arith in
+      rw (← (b .area), first-none (runRefusal (a .job) (a .area)) _ e .0, z)
+
+  ran-told : (request : ℕ) → runNumber a request its ≡ 0 → runAnswer 0 (a .job) (seatGrant a request) (a .area) ≡ ranAnswer (ran s (engineRun (a .job) (seatGrant a request) its))
+  unfolding runDone
+  ran-told request e = rw (ran-is request e)
+
+  fetched-told : (buffer : List ℕ) → fetchAnswer (fetchNumber a buffer its) (a .area) buffer ≡ fetchedAnswer s (engineFetch (a .job) buffer its)
+  unfolding fetchOf
+  fetched-told buffer = rw (b .area)
+
+  run-done : (request : ℕ) → runNumber a request its ≡ 0
+      → Beside (runSeat 0 a (seatGrant a request) its) (engine.moved s (engineRun (a .job) (seatGrant a request) its) (ran s (engineRun (a .job) (seatGrant a request) its)))
+  unfolding runDone nextJob
+  run-done request e =
+      let k = seatGrant a request in
+      rw (ran-is request e) (record { area = refl; job = refl; granted = ap (λ (n : ℕ). n + k) (b .granted) })
+
+  run-step : (j request : ℕ) (lent : Lent) (n : ℕ) → runNumber a request lent ≡ n
+      → (let r = runAnswer n (a .job) (seatGrant a request) (lentWords (a .area) lent) in
+      (r .number ≡ 0 → Its lent) → Step (runSeat n a (seatGrant a request) lent) s (engineCall own (r .number) (a .job) (run j request lent) (r .count)))
+  unfolding Along afterAll runDone
+  run-step j request its zero e u = record { in-step = (λ z. (refl, b .job), tt); beside = run-done request e }
+  run-step j request (another m) zero e u = absurd (u refl)
+  run-step j request lent (suc n) e u = idle
+
+  fetch-step : (j n : ℕ) (buffer : List ℕ) (lent : Lent) → (fetchNumber a buffer lent ≡ 0 → Its lent) → Step a s (engineCall own n (a .job) (fetch j buffer lent) 0)
+  unfolding Along afterAll
+  fetch-step j n buffer its u = record { in-step = (λ z. (refl, b .job), tt); beside = b }
+  fetch-step j n buffer (another m) u = record { in-step = (λ z. absurd (u z), tt); beside = b }
+
+  own-step : (c : Call) → (IsLoad c → ownAnswer a c .number ≡ 0 → ⊥) → (ownAnswer a c .number ≡ 0 → LentIts c)
+      → Step (ownNext a c) s (engineCall own (ownAnswer a c .number) (a .job) c (ownAnswer a c .count))
+  own-step (load j rec lent) f u = load-step j rec lent (loadNumber a rec lent) (f tt)
+  own-step (run j request lent) f u = run-step j request lent (runNumber a request lent) refl u
+  own-step (fetch j buffer lent) f u = fetch-step j (fetchNumber a buffer lent) buffer lent u
+  own-step (heard j) f u = idle
+  own-step begin f u = idle
+
+-- ---- over a list of calls
+
+module _ (i : ℕ) (small : i < 8) where
+  by-kind : (h : Hub) (c : Call) (s : State) (k : Kind) → kind i c ≡ k → Eight (h .desk) → Beside (seat i h) s → (k ≡ own → IsLoad c → Accepted h c → ⊥) → (k ≡ own → Accepted h c → LentIts c)
+      → Step (seat i (next h c)) s (engineCall k (answer h c .number) (jobOf (h .desk) i) c (answer h c .count))
+  by-kind h c s own e w b f u =
+      let r = own-answer h i small w c e in
+      let n = ap (λ (x : Answer). x .number) r in
+      subst (λ (a : Seat). Step a s (engineCall own (answer h c .number) (jobOf (h .desk) i) c (answer h c .count))) (sym (own-next h i small w c e))
+      (subst (λ (x : Answer). Step (ownNext (seat i h) c) s (engineCall own (x .number) (jobOf (h .desk) i) c (x .count))) (sym r)
+      (own-step (seat i h) s b c (λ t z. f refl t (n ∙ z)) (λ z. u refl (n ∙ z))))
+  by-kind h c s other e w b f u =
+      subst (λ (a : Seat). Step a s []) (sym (other-passes h i c e .seat)) (idle _ s (record { area = b .area; job = b .job; granted = b .granted }))
+  by-kind h c s round e w b f u =
+      subst (λ (a : Seat). Step a s []) (sym (round-next h i c e)) (idle _ s (record { area = b .area; job = b .job; granted = b .granted }))
+
+  all : (h : Hub) (s : State) (calls : List Call) → Eight (h .desk) → Beside (seat i h) s → Along next (NoLoad i) h calls → Along next (OwnLent i) h calls
+      → Step (seat i (after h calls)) s (engineCalls i h calls)
+  unfolding Along afterAll engineCalls
+  all h s [] w b f u = idle (seat i h) s b
+  all h s (c ∷ calls) w b f u =
+      let now = engineCall (kind i c) (answer h c .number) (jobOf (h .desk) i) c (answer h c .count) in
+      let x = by-kind h c s (kind i c) refl w b (f .0) (u .0) in
+      let y = all (next h c) (afterAll engine.after s now) calls (eight-next h c w) (x .beside) (f .1) (u .1) in
+      record {
+        in-step = along-append engine.after Stepping s now (engineCalls i (next h c) calls) (x .in-step) (y .in-step);
+        beside = subst (Beside (seat i (after (next h c) calls))) (sym (after-append engine.after s now (engineCalls i (next h c) calls))) (y .beside);
+      }
+
+  engine-append : (h : Hub) (a b : List Call) → engineCalls i h (a ++ b) ≡ engineCalls i h a ++ engineCalls i (after h a) b
+  unfolding engineCalls afterAll
+  engine-append h [] b = refl
+  engine-append h (c ∷ a) b =
+      let now = engineCall (kind i c) (answer h c .number) (jobOf (h .desk) i) c (answer h c .count) in
+      ap (λ (t : List engine.Call). now ++ t) (engine-append (next h c) a b) ∙ sym (append-assoc now (engineCalls i (next h c) a) (engineCalls i (after (next h c) a) b))
+
+-- ---- the sector's calls since a Load
+
+module _ (i : ℕ) (small : i < 8) (l : Load) (g : Hub) (w : Eight (g .desk)) (b : Beside (seat i g) (start l)) (calls : List Call) (f : EachNoLoad i g calls) (u : EachLentIts i g calls) where
+  at : (p : Point calls) → Step (seat i (after g (p .before))) (start l) (engineCalls i g (p .before))
+  unfolding EachNoLoad EachLentIts
+  at p =
+      all i small g (start l) (p .before) w b
+      (along-of next (NoLoad i) g (p .before) (each-before next (NoLoad i) g calls p f))
+      (along-of next (OwnLent i) g (p .before) (each-before next (OwnLent i) g calls p u))
+
+  stepped : EachInStep l (engineCalls i g calls)
+  unfolding EachInStep
+  stepped = each-of engine.after Stepping (start l) (engineCalls i g calls) (at (record { before = calls; rest = []; is = sym (append-nil calls) }) .in-step)
+
+  kept : Kept l (engineCalls i g calls)
+  kept = demand3 l (engineCalls i g calls) stepped
+
+  -- a place of the desk's list, as a point
+  abbrev here : {c : Call} → Place c calls → Point calls
+  here {c} p = record { before = p .before; rest = c ∷ p .rest; is = p .is }
+
+  module _ {c : Call} (p : Place c calls) where
+    eight-here : Eight (after g (p .before) .desk)
+    eight-here = eight-after g (p .before) w
+
+    beside-here : Beside (seat i (after g (p .before))) (reached i l g (p .before))
+    beside-here = at (here p) .beside
+
+    told-here : kind i c ≡ own → answer (after g (p .before)) c ≡ ownAnswer (seat i (after g (p .before))) c
+    told-here e = own-answer (after g (p .before)) i small eight-here c e
+
+  -- and as a place of the engine's list
+  abbrev rest-calls : {c : Call} → Place c calls → List engine.Call
+  rest-calls {c} p = engineCalls i (next (after g (p .before)) c) (p .rest)
+
+  split : {c : Call} (p : Place c calls) (d : engine.Call)
+      → (let h = after g (p .before) in engineCall (kind i c) (answer h c .number) (jobOf (h .desk) i) c (answer h c .count) ≡ d ∷ [])
+      → engineCalls i g calls ≡ engineCalls i g (p .before) ++ d ∷ rest-calls p
+  unfolding engineCalls
+  split {c} p d e =
+      ap (engineCalls i g) (p .is) ∙ engine-append i small g (p .before) (c ∷ p .rest)
+      ∙ ap (λ (t : List engine.Call). engineCalls i g (p .before) ++ (t ++ rest-calls p)) e
+
+  module _ (request : ℕ) (p : Place (run i request its) calls) where
+    abbrev run-hub : Hub
+    run-hub = after g (p .before)
+
+    abbrev run-call : RunCall
+    run-call = engineRun (jobOf (run-hub .desk) i) (answer run-hub (run i request its) .count) its
+
+    run-split : answer run-hub (run i request its) .number ≡ 0 → engineCalls i g calls ≡ engineCalls i g (p .before) ++ engine.run run-call ∷ rest-calls p
+    run-split z =
+        split p (engine.run run-call)
+        (ap₂ (λ (k : Kind) (n : ℕ). engineCall k n (jobOf (run-hub .desk) i) (run i request its) (answer run-hub (run i request its) .count)) (own-kind i) z)
+
+    -- what an accepted Run answers
+    run-told : answer run-hub (run i request its) .number ≡ 0 → answer run-hub (run i request its) ≡ ranAnswer (ran (reached i l g (p .before)) run-call)
+    unfolding runDone
+    run-told z =
+        let a = seat i run-hub in
+        let k = seatGrant a request in
+        let q = told-here p (own-kind i) in
+        let n : runNumber a request its ≡ 0 = sym (run-number-is (runNumber a request its) (a .job) k (a .area)) ∙ sym (ap (λ (x : Answer). x .number) q) ∙ z in
+        let t = q ∙ ap (λ (m : ℕ). runAnswer m (a .job) k (a .area)) n in
+        t ∙ ran-told a (reached i l g (p .before)) (beside-here p) request n
+        ∙ ap (λ (m : ℕ). ranAnswer (ran (reached i l g (p .before)) (engineRun (a .job) m its))) (sym (ap (λ (x : Answer). x .count) t))
+
+    run-clamps : answer run-hub (run i request its) .number ≡ 0
+        → (answer run-hub (run i request its) .clamps-r ≡ 0) × (answer run-hub (run i request its) .clamps-q ≡ 0)
+    run-clamps z =
+        let k = kept .no-run-clamps run-call (record { before = engineCalls i g (p .before); rest = rest-calls p; is = run-split z }) in
+        (ap (λ (x : Answer). x .clamps-r) (run-told z) ∙ k .0, ap (λ (x : Answer). x .clamps-q) (run-told z) ∙ k .1)
+
+  -- a Run that is lent any area is refused, or it is lent the sector's
+  abbrev Unclamped : (request : ℕ) (lent : Lent) → Place (run i request lent) calls → Type 0
+  Unclamped request lent p = let x = answer (after g (p .before)) (run i request lent) in (x .clamps-r ≡ 0) × (x .clamps-q ≡ 0)
+
+  by-number : (request : ℕ) (lent : Lent) (p : Place (run i request lent) calls) (n : ℕ) → answer (after g (p .before)) (run i request lent) .number ≡ n → Unclamped request lent p
+  unfolding EachLentIts
+  by-number request its p zero e = run-clamps request p e
+  by-number request (another m) p zero e = absurd (u (run i request (another m)) p (own-kind i) e)
+  by-number request lent p (suc n) e =
+      let x = refusals-change-nothing (after g (p .before)) (run i request lent) (λ z. omega (arith, e, z)) .answer in
+      (ap (λ (y : Answer). y .clamps-r) x, ap (λ (y : Answer). y .clamps-q) x)
+
+  module _ (buffer : List ℕ) (p : Place (fetch i buffer its) calls) where
+    abbrev fetch-hub : Hub
+    fetch-hub = after g (p .before)
+
+    abbrev fetch-call : FetchCall
+    fetch-call = engineFetch (jobOf (fetch-hub .desk) i) buffer its
+
+    fetch-split : engineCalls i g calls ≡ engineCalls i g (p .before) ++ engine.fetch fetch-call ∷ rest-calls p
+    fetch-split =
+        split p (engine.fetch fetch-call)
+        (ap (λ (k : Kind). engineCall k (answer fetch-hub (fetch i buffer its) .number) (jobOf (fetch-hub .desk) i) (fetch i buffer its) (answer fetch-hub (fetch i buffer its) .count)) (own-kind i))
+
+    abbrev fetch-place : Place (engine.fetch fetch-call) (engineCalls i g calls)
+    fetch-place = record { before = engineCalls i g (p .before); rest = rest-calls p; is = fetch-split }
+
+    fetch-told : answer fetch-hub (fetch i buffer its) ≡ fetchedAnswer (reached i l g (p .before)) fetch-call
+    fetch-told = told-here p (own-kind i) ∙ fetched-told (seat i fetch-hub) (reached i l g (p .before)) (beside-here p) buffer
+
+    number-told : answer fetch-hub (fetch i buffer its) .number ≡ refusal (reached i l g (p .before)) (engine.fetch fetch-call)
+    number-told = ap (λ (x : Answer). x .number) fetch-told
+
+    fetch-iff : Accepted fetch-hub (fetch i buffer its) ↔ ((120 ≤ jobOf (fetch-hub .desk) i .turn) × (2049 ≤ length buffer))
+    fetch-iff =
+        let k = kept .fetch-accepted fetch-call fetch-place (refl, beside-here p .job) in
+        let t = beside-here p .granted in
+        (λ z. (let x = k .0 (sym number-told ∙ z) in (omega (arith, t, x .0), x .1)), λ x. number-told ∙ k .1 (omega (arith, t, x .0), x .1))
+
+    fetch-written : Accepted fetch-hub (fetch i buffer its)
+        → answer fetch-hub (fetch i buffer its) .buffer ≡ resultRecord (R (fetch-hub .area i)) (Q (fetch-hub .area i)) ++ drop 2049 buffer
+    fetch-written z = ap (λ (x : Answer). x .buffer) fetch-told ∙ rw (beside-here p .area) (kept .written fetch-call fetch-place (sym number-told ∙ z))
+
+  -- once all turns are granted
+  factored-at : (p : Point calls)
+      → (let h = after g (p .before) in 120 ≤ jobOf (h .desk) i .turn → Factorization (realEntry (l .bytes)) (R (h .area i)) (Q (h .area i)))
+  factored-at p z =
+      let b = at p .beside in
+      let t = b .granted in
+      let is = ap (engineCalls i g) (p .is) ∙ engine-append i small g (p .before) (p .rest) in
+      rw (b .area) (kept .factored (record { before = engineCalls i g (p .before); rest = engineCalls i (after g (p .before)) (p .rest); is = is }) (omega (arith, t, z)))
+
+-- ---- the law
+
+-- after an accepted Load
+loaded-beside : (a : Seat) (l : Load) → l .lent ≡ a .area → Beside (loadSeat (loadNumber a (l .bytes) its) a (l .bytes) its) (start l)
+unfolding start loadOf loadBy
+loaded-beside a l e = rw (← e, l .accepted) (record { area = refl; job = refl; granted = refl })
+
+pub sector-demand-3 : SectorDemand3
+sector-demand-3 i areas before calls l small e f u =
+    let h = after (new areas) before in
+    let w = eight-after (new areas) before (eight-new areas) in
+    let c = load i (l .bytes) its in
+    let g = next h c in
+    let x = eight-next h c w in
+    let b = subst (λ (a : Seat). Beside a (start l)) (sym (own-next h i small w c (own-kind i))) (loaded-beside (seat i h) l e) in
+    record {
+      in-step = stepped i small l g x b calls f u;
+      kept = kept i small l g x b calls f u;
+      follows = λ p. let y = at i small l g x b calls f u p .beside in record { area = y .area; job = y .job; granted = y .granted };
+      runs = run-told i small l g x b calls f u;
+      fetches = fetch-told i small l g x b calls f u;
+      no-clamps = λ request lent p. by-number i small l g x b calls f u request lent p _ refl;
+      fetch-accepted = fetch-iff i small l g x b calls f u;
+      written = fetch-written i small l g x b calls f u;
+      factored = factored-at i small l g x b calls f u;
+    }

@@ -1,0 +1,66 @@
+-- Document 02, U7: a sector's area is as if it had run alone with the turns granted, and so are its job and its heard byte. Assumes nothing.
+use mathlib.Core.Path.{_≡_}
+use mathlib.Core.List.{List, [], _∷_, _++_}
+use Prim.Native.Nat.{ℕ, zero, suc, _<_}
+use lib.IntN.{ℤ}
+use Rattle.lists.specs.Histories.{afterAll}
+use Rattle.engine.specs.declared.job.Job.{Job}
+use Rattle.engine.specs.Load.{loadOf}
+use Rattle.engine.specs.Run.{runOf}
+use Rattle.desk.specs.Desk.{sectorCount, jobOf, heardOf}
+use Rattle.desk_laws.specs.Calls.{Call, load, run, fetch, heard, begin, Hub, new, answer, next, after, Kind, own, other, round, kind, EachLentIts}
+
+-- ---- one area alone, by the engine's own calls
+
+pub record Alone : Type 0 where
+  pub job : Job
+  pub heard : ℕ
+  pub area : List ℤ
+
+-- Load of a record, or Run with so many turns
+pub data Work : Type 0 where
+  loading : List ℕ → Work
+  turns : ℕ → Work
+
+-- a refused Load leaves job and heard byte as they were
+abbrev pub loadedAlone : ℕ → Alone → Alone → Alone
+loadedAlone zero before after = after
+loadedAlone (suc n) before after = before
+
+unfoldable pub aloneNext : Alone → Work → Alone
+aloneNext a (loading rec) =
+    let o = loadOf rec (a .area) in
+    loadedAlone (o .reply .number) a (record { job = o .reply .job; heard = o .reply .heard; area = o .workspace })
+aloneNext a (turns k) = let o = runOf (a .job) k (a .area) in record { job = o .reply .job; heard = a .heard; area = o .workspace }
+
+abbrev pub aloneAfter : Alone → List Work → Alone
+aloneAfter a works = afterAll aloneNext a works
+
+-- ---- what the desk had the engine do for a sector: the records of its accepted Loads, and the turns granted to its accepted Runs
+
+abbrev pub workOf : Call → ℕ → List Work
+workOf (load i rec lent) count = loading rec ∷ []
+workOf (run i request lent) count = turns count ∷ []
+workOf (fetch i buffer lent) count = []
+workOf (heard i) count = []
+workOf begin count = []
+
+-- by kind, and by the call's number
+abbrev pub worksOf : Kind → ℕ → Call → ℕ → List Work
+worksOf own zero c count = workOf c count
+worksOf own (suc n) c count = []
+worksOf other n c count = []
+worksOf round n c count = []
+
+unfoldable pub works : ℕ → Hub → List Call → List Work
+works i h [] = []
+works i h (c ∷ calls) = worksOf (kind i c) (answer h c .number) c (answer h c .count) ++ works i (next h c) calls
+
+-- ---- the law
+
+abbrev pub standing : ℕ → Hub → Alone
+standing i h = record { job = jobOf (h .desk) i; heard = heardOf (h .desk) i; area = h .area i }
+
+abbrev pub AsAlone : Type 0
+AsAlone = (i : ℕ) (areas : ℕ → List ℤ) (calls : List Call) → i < sectorCount → EachLentIts i (new areas) calls
+    → standing i (after (new areas) calls) ≡ aloneAfter (standing i (new areas)) (works i (new areas) calls)

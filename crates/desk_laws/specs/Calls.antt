@@ -1,0 +1,146 @@
+-- Document 02, U7: lists of calls at the desk, refused ones among them, each handed the desk that the one before answered. A sector's area is written by its
+-- own calls and by nobody else. Each call does what its own definition says, which its contract equates the code with. Assumes nothing.
+use mathlib.Core.Path.{_≡_}
+use mathlib.Core.Bool.{cond}
+use mathlib.Core.List.{List, []}
+use Prim.Native.Nat.{ℕ}
+use lib.Dec.{eqb}
+use lib.IntN.{ℤ}
+use Rattle.lists.specs.Histories.{afterAll, Each}
+use Rattle.engine.specs.declared.job.Job.{Job}
+use Rattle.engine.specs.Job.{noJob}
+use Rattle.desk.specs.declared.Desk.{Desk}
+use Rattle.desk.specs.Desk.{newDesk, beginOf}
+use Rattle.desk.specs.Load.{deskLoadOf}
+use Rattle.desk.specs.Run.{deskRunOf}
+use Rattle.desk.specs.Fetch.{deskFetchOf}
+use Rattle.desk.specs.Heard.{deskHeardOf}
+
+-- ---- a call
+
+-- the area that it is lent: that of its sector, as the call before left it, or any other
+pub data Lent : Type 0 where
+  its : Lent
+  another : List ℤ → Lent
+
+-- for a sector: Load with a record, Run with a request, Fetch with its buffer as it is handed over, and the heard byte; or a round begins
+pub data Call : Type 0 where
+  load : ℕ → List ℕ → Lent → Call
+  run : ℕ → ℕ → Lent → Call
+  fetch : ℕ → List ℕ → Lent → Call
+  heard : ℕ → Call
+  begin : Call
+
+-- ---- what stands between two calls
+
+-- the desk, and the words of each sector's area
+pub record Hub : Type 0 where
+  pub desk : Desk
+  pub area : ℕ → List ℤ
+
+abbrev pub new : (ℕ → List ℤ) → Hub
+new areas = record { desk = newDesk; area = areas }
+
+-- the words that a call is lent, and the sector's area after a call that left the words l in what it was lent
+abbrev pub lentWords : List ℤ → Lent → List ℤ
+lentWords area its = area
+lentWords area (another m) = m
+
+abbrev pub leftIn : List ℤ → Lent → List ℤ → List ℤ
+leftIn area its l = l
+leftIn area (another m) l = area
+
+-- the areas with that of one sector replaced
+unfoldable pub put : (ℕ → List ℤ) → ℕ → List ℤ → ℕ → List ℤ
+put areas sector l k = cond (eqb k sector) l (areas k)
+
+-- ---- a call, by its own definition
+
+-- what it answers, without the desk; fields that its reply has not are 0. And what it leaves in the buffer and the area that it was lent
+pub record Answer : Type 0 where
+  pub number : ℕ
+  pub heard : ℕ
+  pub job : Job
+  pub count : ℕ
+  pub clamps-r : ℕ
+  pub clamps-q : ℕ
+  pub buffer : List ℕ
+  pub words : List ℤ
+
+-- a number alone, and what was lent
+abbrev pub bare : ℕ → List ℕ → List ℤ → Answer
+bare number buffer words =
+    record { number = number; heard = 0; job = noJob; count = 0; clamps-r = 0; clamps-q = 0; buffer = buffer; words = words }
+
+unfoldable pub answer : Hub → Call → Answer
+answer h (load i rec lent) =
+    let o = deskLoadOf (h .desk) i rec (lentWords (h .area i) lent) in
+    let r = o .reply in
+    record { number = r .number; heard = r .heard; job = r .job; count = 0; clamps-r = 0; clamps-q = 0; buffer = []; words = o .area }
+answer h (run i request lent) =
+    let o = deskRunOf (h .desk) i request (lentWords (h .area i) lent) in
+    let r = o .reply in
+    record { number = r .number; heard = 0; job = r .job; count = r .count; clamps-r = r .«clamps_r»; clamps-q = r .«clamps_q»; buffer = []; words = o .area }
+answer h (fetch i buffer lent) =
+    let l = lentWords (h .area i) lent in
+    let o = deskFetchOf (h .desk) i l buffer in
+    bare (o .reply .number) (o .buffer) l
+answer h (heard i) =
+    let r = deskHeardOf (h .desk) i in
+    record { number = r .number; heard = r .heard; job = noJob; count = 0; clamps-r = 0; clamps-q = 0; buffer = []; words = [] }
+answer h begin = bare (beginOf (h .desk) .number) [] []
+
+-- the desk that it answers, and the areas
+unfoldable pub next : Hub → Call → Hub
+next h (load i rec lent) =
+    let o = deskLoadOf (h .desk) i rec (lentWords (h .area i) lent) in
+    record { desk = o .reply .desk; area = put (h .area) i (leftIn (h .area i) lent (o .area)) }
+next h (run i request lent) =
+    let o = deskRunOf (h .desk) i request (lentWords (h .area i) lent) in
+    record { desk = o .reply .desk; area = put (h .area) i (leftIn (h .area i) lent (o .area)) }
+next h (fetch i buffer lent) = record { desk = deskFetchOf (h .desk) i (lentWords (h .area i) lent) buffer .reply .desk; area = h .area }
+next h (heard i) = record { desk = deskHeardOf (h .desk) i .desk; area = h .area }
+next h begin = record { desk = beginOf (h .desk) .desk; area = h .area }
+
+abbrev pub after : Hub → List Call → Hub
+after h calls = afterAll next h calls
+
+-- none of the call's tests fails
+abbrev pub Accepted : Hub → Call → Type 0
+Accepted h c = answer h c .number ≡ 0
+
+-- ---- a call as a sector sees it: its own, another's, or a round begins
+
+pub data Kind : Type 0 where
+  own : Kind
+  other : Kind
+  round : Kind
+
+abbrev pub ownOr : ℕ → ℕ → Kind
+ownOr i j = cond (eqb j i) own other
+
+abbrev pub kind : ℕ → Call → Kind
+kind i (load j rec lent) = ownOr i j
+kind i (run j request lent) = ownOr i j
+kind i (fetch j buffer lent) = ownOr i j
+kind i (heard j) = ownOr i j
+kind i begin = round
+
+-- the call is lent its sector's area, where it is lent one
+abbrev pub Its : Lent → Type 0
+Its its = Unit {0}
+Its (another m) = ⊥
+
+abbrev pub LentIts : Call → Type 0
+LentIts (load i rec lent) = Its lent
+LentIts (run i request lent) = Its lent
+LentIts (fetch i buffer lent) = Its lent
+LentIts (heard i) = Unit {0}
+LentIts begin = Unit {0}
+
+-- the premise of the laws: each accepted call of the sector is lent its area
+abbrev pub OwnLent : ℕ → Hub → Call → Type 0
+OwnLent i h c = kind i c ≡ own → Accepted h c → LentIts c
+
+unfoldable pub EachLentIts : ℕ → Hub → List Call → Type 0
+EachLentIts i h calls = Each next (OwnLent i) h calls

@@ -1,0 +1,88 @@
+-- Document 02, U7: 12 ahead of all other numbers, 13 after 5, and what stands beside them, as one table with one statement over all its rows, computed from
+-- the definitions that the contracts cite. On each of these desks every sector has the same job, also one that no call leaves there. Where it can, a refused row
+-- fails the tests that follow as well. Assumes nothing.
+use mathlib.Core.Path.{_≡_, refl}
+use mathlib.Core.List.{List, [], _∷_}
+use Prim.Native.Nat.{ℕ}
+use lib.IntN.{pos}
+use lib.ListN.{replicate}
+use Rattle.refusals.specs.Refusals.{headerTest}
+use Rattle.matrix_record.specs.MatrixRecord.{partOf, antennaHeard, heardBelow}
+use Rattle.engine.specs.declared.job.Job.{Job}
+use Rattle.engine.specs.Job.{jobTest}
+use Rattle.engine.specs.Load.{loadRefusal}
+use Rattle.engine.specs.Run.{runRefusal}
+use Rattle.engine.specs.Fetch.{fetchRefusal}
+use Rattle.desk.specs.declared.Desk.{Desk}
+use Rattle.desk.specs.Desk.{sectorCount}
+use Rattle.desk.specs.Load.{deskLoadRefusal, deskLoadBy, deskLoadOf}
+use Rattle.desk.specs.Run.{roundTest, deskRunRefusal, deskRunDone, deskRunBy, deskRunOf}
+use Rattle.desk.specs.Fetch.{deskFetchRefusal, deskFetchBy, deskFetchOf}
+use Rattle.desk.specs.Heard.{deskHeardBy, deskHeardOf}
+
+-- a call with all that it is handed, and the number that it answers
+pub data Example : Type 0 where
+  -- sector, record and words of the area
+  loading : ℕ → List ℕ → ℕ → ℕ → Example
+  -- job, what the round has left, sector, request and words of the area
+  running : Job → ℕ → ℕ → ℕ → ℕ → ℕ → Example
+  -- job, sector, words of the area and bytes of the buffer
+  fetching : Job → ℕ → ℕ → ℕ → ℕ → Example
+  -- sector
+  hearing : ℕ → ℕ → Example
+
+-- a turn number, and turns made
+abbrev pub job : ℕ → ℕ → Job
+job turn made = record { turn = turn; made = made }
+
+abbrev pub deskWith : Job → ℕ → Desk
+deskWith job left = record { jobs = replicate sectorCount job; heard = replicate sectorCount 255; left = left }
+
+abbrev pub Answers : Example → Type 0
+Answers (loading sector rec words n) = deskLoadOf (deskWith (job 0 0) 0) sector rec (replicate words (pos 0)) .reply .number ≡ n
+Answers (running job left sector request words n) = deskRunOf (deskWith job left) sector request (replicate words (pos 0)) .reply .number ≡ n
+Answers (fetching job sector words bytes n) = deskFetchOf (deskWith job 0) sector (replicate words (pos 0)) (replicate bytes 0) .reply .number ≡ n
+Answers (hearing sector n) = deskHeardOf (deskWith (job 0 0) 0) sector .number ≡ n
+
+abbrev pub AllAnswer : List Example → Type 0
+AllAnswer [] = Unit {0}
+AllAnswer (e ∷ es) = Answers e × AllAnswer es
+
+unfoldable pub examples : List Example
+examples =
+    -- ---- 12: the first sector above 7, one that is 7 in its lowest byte, and the largest number; ahead of 1 and 3
+    loading 8 [] 511 12
+    ∷ loading 263 [] 511 12
+    ∷ loading 4294967295 [] 511 12
+    ∷ loading 7 [] 511 1
+    ∷ loading 7 (1 ∷ []) 511 2
+    ∷ loading 7 (1 ∷ replicate 256 0) 511 3
+    ∷ loading 7 (1 ∷ replicate 256 0) 512 4
+    -- ---- Run: 12, 3, 5, 13
+    ∷ running (job 5 6) 0 8 1 511 12
+    ∷ running (job 5 6) 0 7 1 511 3
+    -- "13 .. after 5"
+    ∷ running (job 5 6) 0 7 1 512 5
+    ∷ running (job 121 0) 0 7 1 512 5
+    ∷ running (job 5 5) 0 7 1 512 13
+    ∷ running (job 119 0) 0 0 65535 512 13
+    -- accepted: "a request above 0", "an unfinished job", "none left" each fail once
+    ∷ running (job 5 5) 0 7 0 512 0
+    ∷ running (job 120 0) 0 7 1 512 0
+    ∷ running (job 5 5) 1 7 1 512 0
+    -- ---- Fetch: 12, 3, 5, 6, 7
+    ∷ fetching (job 121 0) 8 511 2048 12
+    ∷ fetching (job 121 0) 7 511 2048 3
+    ∷ fetching (job 121 0) 7 512 2048 5
+    ∷ fetching (job 119 0) 7 512 2048 6
+    ∷ fetching (job 120 0) 7 512 2048 7
+    -- ---- the heard byte
+    ∷ hearing 8 12
+    ∷ hearing 4294967295 12
+    ∷ hearing 7 0
+    ∷ []
+
+pub desk-numbered : AllAnswer examples
+unfolding examples jobTest loadRefusal runRefusal fetchRefusal headerTest deskLoadOf deskLoadBy deskLoadRefusal deskRunOf deskRunBy deskRunDone deskRunRefusal roundTest deskFetchOf deskFetchBy deskFetchRefusal deskHeardOf deskHeardBy heardBelow antennaHeard partOf
+desk-numbered =
+    (refl, (refl, (refl, (refl, (refl, (refl, (refl, (refl, (refl, (refl, (refl, (refl, (refl, (refl, (refl, (refl, (refl, (refl, (refl, (refl, (refl, (refl, (refl, (refl, tt))))))))))))))))))))))))

@@ -1,0 +1,30 @@
+-- Document 02, U7: a refused call answers its number and the desk as it was, all other fields 0, and changes neither area nor buffer: on every desk, also one
+-- that a host made up. Assumes nothing.
+use mathlib.Core.Path.{_≡_}
+use mathlib.Core.List.{List, []}
+use Prim.Native.Nat.{ℕ}
+use lib.IntN.{ℤ}
+use Rattle.desk_laws.specs.Calls.{Call, load, run, fetch, heard, begin, Hub, lentWords, bare, answer, next, Accepted}
+
+-- the bytes and the words that a call is lent
+abbrev pub bufferLent : Call → List ℕ
+bufferLent (load i rec lent) = []
+bufferLent (run i request lent) = []
+bufferLent (fetch i buffer lent) = buffer
+bufferLent (heard i) = []
+bufferLent begin = []
+
+abbrev pub wordsLent : Hub → Call → List ℤ
+wordsLent h (load i rec lent) = lentWords (h .area i) lent
+wordsLent h (run i request lent) = lentWords (h .area i) lent
+wordsLent h (fetch i buffer lent) = lentWords (h .area i) lent
+wordsLent h (heard i) = []
+wordsLent h begin = []
+
+pub record Unchanged (h : Hub) (c : Call) : Type 0 where
+  pub desk : next h c .desk ≡ h .desk
+  pub area : (i : ℕ) → next h c .area i ≡ h .area i
+  pub answer : answer h c ≡ bare (answer h c .number) (bufferLent c) (wordsLent h c)
+
+abbrev pub RefusalsChangeNothing : Type 0
+RefusalsChangeNothing = (h : Hub) (c : Call) → (Accepted h c → ⊥) → Unchanged h c

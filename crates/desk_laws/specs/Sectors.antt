@@ -1,0 +1,107 @@
+-- Demand 3 for each sector, from its last accepted Load on: the sector's calls, as the desk has the engine make them, are a list of calls that meets demand
+-- 3's premise, and what they answer is what the desk's calls answer. Assumes nothing.
+use mathlib.Core.Path.{_≡_}
+use mathlib.Core.Logic.{_↔_}
+use mathlib.Core.List.{List, [], _∷_, _++_}
+use Prim.Native.Nat.{ℕ, zero, suc, _≤_, _<_}
+use lib.IntN.{ℤ}
+use lib.ListN.{length, drop}
+use Rattle.lists.specs.Histories.{afterAll, Place, Point}
+use Rattle.schedule.specs.Schedule.{rotationCount}
+use Rattle.matrix_record.specs.MatrixRecord.{realEntry}
+use Rattle.result_record.specs.ResultRecord.{resultBytes, resultRecord}
+use Rattle.workspace.specs.Workspace.{R, Q}
+use Rattle.engine.specs.declared.job.Job.{Job}
+use Rattle.engine.specs.Run.{RunOutcome}
+use Rattle.accuracy.specs.Factorization.{Factorization}
+use Rattle.accuracy.specs.Demand3.{Load, State, RunCall, FetchCall, ran, refusal, fetched, start, EachInStep, Kept}
+use Rattle.accuracy.specs.Demand3 as engine
+use Rattle.desk.specs.Desk.{sectorCount, jobOf}
+use Rattle.desk_laws.specs.Calls.{Lent, its, another, Call, load, run, fetch, heard, begin, Hub, new, Answer, bare, answer, next, after, Accepted, Kind, own, other, round, kind, EachLentIts}
+use Rattle.desk_laws.specs.Unloaded.{EachNoLoad}
+
+-- ---- the sector's calls as the engine has them
+
+-- what Load filled, or any other area
+abbrev pub lentEngine : Lent → engine.Lent
+lentEngine its = engine.loaded
+lentEngine (another m) = engine.other m
+
+-- each is handed the job that the desk has, and a Run the turns granted for its allowance
+abbrev pub engineRun : Job → ℕ → Lent → RunCall
+engineRun job count lent = record { job = job; budget = count; lent = lentEngine lent }
+
+abbrev pub engineFetch : Job → List ℕ → Lent → FetchCall
+engineFetch job buffer lent = record { job = job; lent = lentEngine lent; buffer = buffer }
+
+-- by kind, and by the call's number: a Run that the desk refuses makes no call of the engine
+abbrev pub engineCall : Kind → ℕ → Job → Call → ℕ → List engine.Call
+engineCall own zero job (run i request lent) count = engine.run (engineRun job count lent) ∷ []
+engineCall own (suc n) job (run i request lent) count = []
+engineCall own number job (fetch i buffer lent) count = engine.fetch (engineFetch job buffer lent) ∷ []
+engineCall own number job (load i rec lent) count = []
+engineCall own number job (heard i) count = []
+engineCall own number job begin count = []
+engineCall other number job c count = []
+engineCall round number job c count = []
+
+unfoldable pub engineCalls : ℕ → Hub → List Call → List engine.Call
+engineCalls i h [] = []
+engineCalls i h (c ∷ calls) = engineCall (kind i c) (answer h c .number) (jobOf (h .desk) i) c (answer h c .count) ++ engineCalls i (next h c) calls
+
+-- what stands after the desk's calls, by demand 3's own account of the engine's
+abbrev pub reached : ℕ → Load → Hub → List Call → State
+reached i l g calls = afterAll engine.after (start l) (engineCalls i g calls)
+
+-- ---- what is promised of the sector's calls after a Load
+
+-- the sector's area and job are those of that account, and the turns granted since the Load are the turn number
+pub record Follows (i : ℕ) (h : Hub) (s : State) : Type 0 where
+  pub area : h .area i ≡ s .workspace
+  pub job : jobOf (h .desk) i ≡ s .job
+  pub granted : jobOf (h .desk) i .turn ≡ s .granted
+
+-- a Run and a Fetch of the engine as an answer of the desk
+abbrev pub ranAnswer : RunOutcome → Answer
+ranAnswer o =
+    let r = o .reply in
+    record { number = r .number; heard = 0; job = r .job; count = r .count; clamps-r = r .«clamps_r»; clamps-q = r .«clamps_q»; buffer = []; words = o .workspace }
+
+abbrev pub fetchedAnswer : State → FetchCall → Answer
+fetchedAnswer s f = bare (refusal s (engine.fetch f)) (fetched s f) (s .workspace)
+
+pub record SectorKept (i : ℕ) (l : Load) (g : Hub) (calls : List Call) : Type 0 where
+  -- demand 3's premise, and its promise
+  pub in-step : EachInStep l (engineCalls i g calls)
+  pub kept : Kept l (engineCalls i g calls)
+  -- which is one about the sector's area and job
+  pub follows : (p : Point calls) → Follows i (after g (p .before)) (reached i l g (p .before))
+  -- about what its accepted Runs answer
+  pub runs : (request : ℕ) (p : Place (run i request its) calls)
+      → (let h = after g (p .before) in
+      let a = answer h (run i request its) in
+      a .number ≡ 0 → a ≡ ranAnswer (ran (reached i l g (p .before)) (engineRun (jobOf (h .desk) i) (a .count) its)))
+  -- and about what its Fetches answer, refused ones too
+  pub fetches : (buffer : List ℕ) (p : Place (fetch i buffer its) calls)
+      → (let h = after g (p .before) in answer h (fetch i buffer its) ≡ fetchedAnswer (reached i l g (p .before)) (engineFetch (jobOf (h .desk) i) buffer its))
+  -- so no Run, a refused one too, clamps a word
+  pub no-clamps : (request : ℕ) (lent : Lent) (p : Place (run i request lent) calls)
+      → (let a = answer (after g (p .before)) (run i request lent) in (a .clamps-r ≡ 0) × (a .clamps-q ≡ 0))
+  -- a Fetch is accepted exactly when all 120 turns were granted and its buffer has 2,049 bytes or more
+  pub fetch-accepted : (buffer : List ℕ) (p : Place (fetch i buffer its) calls)
+      → (let h = after g (p .before) in Accepted h (fetch i buffer its) ↔ ((rotationCount ≤ jobOf (h .desk) i .turn) × (resultBytes ≤ length buffer)))
+  -- and then writes the record of the area's R and Q
+  pub written : (buffer : List ℕ) (p : Place (fetch i buffer its) calls)
+      → (let h = after g (p .before) in
+      Accepted h (fetch i buffer its) → answer h (fetch i buffer its) .buffer ≡ resultRecord (R (h .area i)) (Q (h .area i)) ++ drop resultBytes buffer)
+  -- which are a factorization of the matrix that the sector was loaded with, from the moment on when all 120 turns were granted
+  pub factored : (p : Point calls)
+      → (let h = after g (p .before) in
+      rotationCount ≤ jobOf (h .desk) i .turn → Factorization (realEntry (l .bytes)) (R (h .area i)) (Q (h .area i)))
+
+-- for a Load that the engine accepts with the sector's area as it stands, after any calls, and the calls after it among which the sector is not loaded again
+abbrev pub SectorDemand3 : Type 0
+SectorDemand3 = (i : ℕ) (areas : ℕ → List ℤ) (before calls : List Call) (l : Load) → i < sectorCount
+    → (let h = after (new areas) before in
+    let g = next h (load i (l .bytes) its) in
+    l .lent ≡ h .area i → EachNoLoad i g calls → EachLentIts i g calls → SectorKept i l g calls)

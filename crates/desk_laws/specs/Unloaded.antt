@@ -1,0 +1,46 @@
+-- Document 02, U7: a sector never loaded has the job (120, 0) and heard byte 0. So its Run makes nothing, and its Fetch is refused by 3, 7 or 8 alone.
+-- Assumes nothing.
+use mathlib.Core.Path.{_≡_}
+use mathlib.Core.List.{List, []}
+use Prim.Native.Nat.{ℕ, zero, suc, _<_}
+use lib.IntN.{ℤ}
+use Rattle.lists.specs.Histories.{Each}
+use Rattle.refusals.specs.Refusals.{first, bufferTest}
+use Rattle.result_record.specs.ResultRecord.{resultBytes, resultTest}
+use Rattle.workspace.specs.Workspace.{workspaceTest, R}
+use Rattle.engine.specs.Fetch.{fetchBy}
+use Rattle.desk.specs.Desk.{sectorCount, unloadedJob, jobOf, heardOf}
+use Rattle.desk_laws.specs.Calls.{Lent, Call, load, run, fetch, heard, begin, Hub, new, lentWords, Answer, bare, answer, next, after, Accepted, own, kind}
+
+abbrev pub IsLoad : Call → Type 0
+IsLoad (load i rec lent) = Unit {0}
+IsLoad (run i request lent) = ⊥
+IsLoad (fetch i buffer lent) = ⊥
+IsLoad (heard i) = ⊥
+IsLoad begin = ⊥
+
+-- no Load of the sector is accepted
+abbrev pub NoLoad : ℕ → Hub → Call → Type 0
+NoLoad i h c = kind i c ≡ own → IsLoad c → Accepted h c → ⊥
+
+unfoldable pub EachNoLoad : ℕ → Hub → List Call → Type 0
+EachNoLoad i h calls = Each next (NoLoad i) h calls
+
+-- a Run that makes nothing, by its number
+abbrev pub ranNothing : ℕ → List ℤ → Answer
+ranNothing zero l = record { number = 0; heard = 0; job = unloadedJob; count = 0; clamps-r = 0; clamps-q = 0; buffer = []; words = l }
+ranNothing (suc n) l = bare (suc n) [] l
+
+pub record Unloaded (i : ℕ) (h : Hub) : Type 0 where
+  pub job : jobOf (h .desk) i ≡ unloadedJob
+  pub heard : heardOf (h .desk) i ≡ 0
+  -- its Run is refused by 3 alone, whatever the request and whatever the round has left, and makes nothing
+  pub run : (request : ℕ) (lent : Lent) → (let l = lentWords (h .area i) lent in answer h (run i request lent) ≡ ranNothing (workspaceTest l) l)
+  -- its Fetch is refused by 3, 7 or 8 alone, and else writes the record of what the area holds
+  pub fetch : (buffer : List ℕ) (lent : Lent)
+      → (let l = lentWords (h .area i) lent in
+      let n = first (workspaceTest l) (first (bufferTest resultBytes buffer) (resultTest (R l))) in
+      answer h (fetch i buffer lent) ≡ bare n (fetchBy n l buffer .buffer) l)
+
+abbrev pub NeverLoaded : Type 0
+NeverLoaded = (i : ℕ) (areas : ℕ → List ℤ) (calls : List Call) → i < sectorCount → EachNoLoad i (new areas) calls → Unloaded i (after (new areas) calls)

@@ -1,0 +1,69 @@
+// The desk for eight sectors, for C and Rust hosts: each call hands on the library's reply.
+use desk::Desk;
+use desk::DeskReply;
+use desk::heard::DeskHeardReply;
+use desk::load::DeskLoadReply;
+use desk::run::DeskRunReply;
+ghost use mathlib.Core.Path.{_≡_};
+ghost use Rattle.desk.specs.Desk.{newDesk, beginOf};
+ghost use Rattle.desk.specs.Load.{DeskLoadOutcome, deskLoadOf};
+ghost use Rattle.desk.specs.Run.{DeskRunOutcome, deskRunOf};
+ghost use Rattle.desk.specs.Fetch.{DeskFetchOutcome, deskFetchOf};
+ghost use Rattle.desk.specs.Heard.{deskHeardOf};
+
+#[no_mangle]
+pub extern "C" fn hubqr_desk_new() -> Desk
+    ensures { λ r. ⌜ r ≡ newDesk ⌝ }
+{
+    desk::new()
+}
+
+#[no_mangle]
+pub extern "C" fn hubqr_desk_begin(desk: Desk) -> DeskReply
+    ensures { λ r. ⌜ r ≡ beginOf desk ⌝ }
+{
+    desk::begin(desk)
+}
+
+#[no_mangle]
+pub extern "C" fn hubqr_desk_load(
+    desk: Desk,
+    sector: u32,
+    bytes: &[u8],
+    area: &mut [i32],
+) -> DeskLoadReply
+    ensures { λ r. ⌜ record { reply = r; area = now (area .exit) } ≡ deskLoadOf desk sector (now (bytes .entry)) (now (area .entry)) ⌝ }
+{
+    desk::load::load(desk, sector, bytes, area)
+}
+
+#[no_mangle]
+pub extern "C" fn hubqr_desk_run(
+    desk: Desk,
+    sector: u32,
+    request: u16,
+    area: &mut [i32],
+) -> DeskRunReply
+    ensures { λ r. ⌜ record { reply = r; area = now (area .exit) } ≡ deskRunOf desk sector request (now (area .entry)) ⌝ }
+{
+    desk::run::run(desk, sector, request, area)
+}
+
+#[no_mangle]
+pub extern "C" fn hubqr_desk_fetch(
+    desk: Desk,
+    sector: u32,
+    area: &[i32],
+    buffer: &mut [u8],
+) -> DeskReply
+    ensures { λ r. ⌜ record { reply = r; buffer = now (buffer .exit) } ≡ deskFetchOf desk sector (now (area .entry)) (now (buffer .entry)) ⌝ }
+{
+    desk::fetch::fetch(desk, sector, area, buffer)
+}
+
+#[no_mangle]
+pub extern "C" fn hubqr_desk_heard(desk: Desk, sector: u32) -> DeskHeardReply
+    ensures { λ r. ⌜ r ≡ deskHeardOf desk sector ⌝ }
+{
+    desk::heard::heard(desk, sector)
+}

@@ -1,0 +1,427 @@
+//! The desk: each sector beside the engine's own calls on another area, what a round grants, and
+//! refusals.
+use crate::job::element;
+use crate::lent::{at, equal_parts, matrix, mixed_matrix, Lent, MIXED_HEARD};
+use hubqr::Refusal::{self, *};
+use hubqr::{ffi, Desk, Job, AREA_WORDS, KIND_RESULT, RESULT_RECORD_BYTES, ROUND_TURNS, SECTORS};
+use std::mem::{align_of, offset_of, size_of};
+
+/// Numbers of no sector. Cut to a byte, to 16 bits or to its last three bits, each would be one.
+const NO_SECTORS: [u32; 10] = [
+    8,
+    9,
+    255,
+    256,
+    263,
+    65_535,
+    65_536,
+    65_543,
+    1 << 31,
+    u32::MAX,
+];
+
+/// A desk, and for each sector what it lends and the same of a sector that is worked alone.
+struct Hub {
+    desk: Desk,
+    lent: [Lent; SECTORS],
+    alone: [Lent; SECTORS],
+}
+
+impl Hub {
+    fn new() -> Hub {
+        Hub {
+            desk: Desk::new(),
+            lent: std::array::from_fn(|_| Lent::new()),
+            alone: std::array::from_fn(|_| Lent::new()),
+        }
+    }
+
+    /// Loads a record: nothing of the desk changes but the sector's job and heard byte.
+    fn load(&mut self, sector: usize, record: &[u8]) {
+        let mut due = self.desk.clone();
+        let alone = hubqr::load(record, &mut self.alone[sector].area).unwrap();
+        (due.jobs[sector], due.heard[sector]) = (alone.job, alone.heard);
+        let area = &mut self.lent[sector].area;
+        let loaded = self.desk.load(sector as u32, record, area);
+        assert_eq!((loaded, &self.desk), (Ok(alone), &due));
+        assert_eq!(self.lent[sector], self.alone[sector]);
+        assert_eq!(self.desk.heard(sector as u32), Ok(alone.heard));
+    }
+
+    /// A Run that is granted so many turns, which the round pays.
+    fn run(&mut self, sector: usize, request: u16, granted: u16) {
+        let mut due = self.desk.clone();
+        let job = due.jobs[sector];
+        let alone = hubqr::run(job, granted, &mut self.alone[sector].area).unwrap();
+        assert_eq!(alone.count, granted.into());
+        due.jobs[sector] = alone.job;
+        due.left -= granted;
+        let area = &mut self.lent[sector].area;
+        let progress = self.desk.run(sector as u32, request, area);
+        assert_eq!((progress, &self.desk), (Ok(alone), &due));
+        assert_eq!(self.lent[sector], self.alone[sector]);
+    }
+
+    /// A Fetch gives what Whole makes of the record, and the desk stays.
+    fn fetch(&mut self, sector: usize, record: &[u8]) {
+        let desk = self.desk.clone();
+        let mut whole = Lent::new();
+        hubqr::whole(record, &mut whole.area, &mut whole.buffer).unwrap();
+        let mut lent = self.lent[sector].clone();
+        let fetched = self.desk.fetch(sector as u32, &lent.area, &mut lent.buffer);
+        assert_eq!((fetched, &self.desk), (Ok(()), &desk));
+        assert_eq!(lent, whole);
+    }
+
+    fn begin(&mut self) {
+        let left = ROUND_TURNS;
+        let due = Desk { left, ..self.desk };
+        assert_eq!((self.desk.begin(), &self.desk), (Ok(()), &due));
+    }
+}
+
+/// A matrix in which antennas 0 to `sector` alone have anything in their columns, and are heard.
+fn record_of(sector: usize) -> Vec<u8> {
+    matrix(|i, j| match j <= sector {
+        true if i == j => (1000 + sector as i16, -5),
+        true => element(i, j),
+        false => (0, 0),
+    })
+}
+
+/// A desk whose sectors differ.
+fn busy() -> Desk {
+    Desk {
+        jobs: std::array::from_fn(|k| at(10 * k as u32, k as u32)),
+        heard: std::array::from_fn(|k| 0xf0 + k as u8),
+        left: 9,
+    }
+}
+
+/// The busy desk with another job for a sector, and so much left.
+fn placed(sector: usize, job: Job, left: u16) -> Desk {
+    let mut desk = Desk { left, ..busy() };
+    desk.jobs[sector] = job;
+    desk
+}
+
+/// Makes a call that must be refused, on newly scribbled memory: it and the desk stay.
+fn refused<T>(
+    desk: &Desk,
+    call: impl FnOnce(&mut Desk, &mut Lent) -> Result<T, Refusal>,
+    with: Refusal,
+) {
+    let (mut kept, mut lent) = (desk.clone(), Lent::new());
+    assert_eq!(call(&mut kept, &mut lent).err(), Some(with));
+    assert_eq!((&kept, lent), (desk, Lent::new()));
+}
+
+#[test]
+fn structs_of_the_desk_have_their_layout_in_c() {
+    assert_eq!((size_of::<Desk>(), align_of::<Desk>()), (76, 4));
+    assert_eq!(offset_of!(Desk, jobs), 0);
+    assert_eq!(offset_of!(Desk, heard), 64);
+    assert_eq!(offset_of!(Desk, left), 72);
+    assert_eq!(size_of::<ffi::DeskReply>(), 80);
+    assert_eq!(offset_of!(ffi::DeskReply, desk), 0);
+    assert_eq!(offset_of!(ffi::DeskReply, number), 76);
+    assert_eq!(size_of::<ffi::DeskLoadReply>(), 88);
+    assert_eq!(offset_of!(ffi::DeskLoadReply, desk), 0);
+    assert_eq!(offset_of!(ffi::DeskLoadReply, number), 76);
+    assert_eq!(offset_of!(ffi::DeskLoadReply, heard), 77);
+    assert_eq!(offset_of!(ffi::DeskLoadReply, job), 80);
+    assert_eq!(size_of::<ffi::DeskRunReply>(), 100);
+    assert_eq!(offset_of!(ffi::DeskRunReply, desk), 0);
+    assert_eq!(offset_of!(ffi::DeskRunReply, number), 76);
+    assert_eq!(offset_of!(ffi::DeskRunReply, job), 80);
+    assert_eq!(offset_of!(ffi::DeskRunReply, count), 88);
+    assert_eq!(offset_of!(ffi::DeskRunReply, clamps_r), 92);
+    assert_eq!(offset_of!(ffi::DeskRunReply, clamps_q), 96);
+    assert_eq!(size_of::<ffi::DeskHeardReply>(), 80);
+    assert_eq!(offset_of!(ffi::DeskHeardReply, desk), 0);
+    assert_eq!(offset_of!(ffi::DeskHeardReply, number), 76);
+    assert_eq!(offset_of!(ffi::DeskHeardReply, heard), 77);
+}
+
+#[test]
+fn a_new_desk_stands_at_the_start_of_a_round() {
+    let due = Desk {
+        jobs: [at(120, 0); SECTORS],
+        heard: [0; SECTORS],
+        left: 120,
+    };
+    assert_eq!([Desk::new(), Desk::default()], [due.clone(), due]);
+    assert_eq!((SECTORS, ROUND_TURNS), (8, 120));
+}
+
+/// Turns of empty columns are skipped and paid for, so all sectors are finished after eight rounds.
+#[test]
+fn eight_sectors_share_eight_rounds() {
+    let records: [Vec<u8>; SECTORS] = std::array::from_fn(record_of);
+    let mut hub = Hub::new();
+    for (sector, record) in records.iter().enumerate() {
+        hub.load(sector, record);
+        assert_eq!(hub.desk.heard[sector], 0xff >> (7 - sector));
+    }
+    for _ in 0..8 {
+        hub.begin();
+        for sector in 0..SECTORS {
+            hub.run(sector, 15, 15);
+        }
+        assert_eq!(hub.desk.left, 0);
+    }
+    for (sector, record) in records.iter().enumerate() {
+        hub.fetch(sector, record);
+        hub.fetch(sector, record);
+    }
+    assert_eq!(hub.desk.jobs[0], at(120, 22));
+    assert_eq!(hub.desk.jobs[7], at(120, 120));
+}
+
+#[test]
+fn who_comes_first_may_have_all() {
+    let mut hub = Hub::new();
+    for sector in [3, 5, 6] {
+        hub.load(sector, &record_of(sector));
+    }
+    hub.run(3, 100, 100);
+    hub.run(5, u16::MAX, 20);
+    hub.run(6, 0, 0);
+    hub.begin();
+    hub.run(3, 21, 20);
+    hub.run(3, u16::MAX, 0);
+    hub.begin(); // the 100 turns left over are not added
+    hub.run(5, 101, 100);
+    hub.run(6, 120, 20);
+    hub.run(5, 1, 0);
+    hub.begin();
+    hub.run(6, 100, 100);
+    for sector in [3, 5, 6] {
+        hub.fetch(sector, &record_of(sector));
+    }
+}
+
+/// The smallest of the request, what the round has left and what the job has left.
+#[test]
+fn the_smallest_is_granted() {
+    let numbers = [0, 1, 2, 59, 60, 61, 119, 120, 121, 256, u16::MAX];
+    for (turn, made) in [(0, 0), (60, 7), (119, 119), (120, 0), (120, 120)] {
+        for left in numbers {
+            for request in numbers {
+                let granted = request.min(left).min(120 - turn);
+                if granted == 0 && request > 0 && turn < 120 {
+                    continue; // which is refused
+                }
+                let mut hub = Hub::new();
+                let sector = usize::from(left % 8);
+                hub.desk = placed(sector, at(turn.into(), made), left);
+                hub.run(sector, request, granted);
+            }
+        }
+    }
+}
+
+#[test]
+fn load_drops_a_job_and_leaves_the_round() {
+    let record = mixed_matrix();
+    for sector in 0..SECTORS {
+        let mut hub = Hub::new();
+        hub.load(sector, &record);
+        hub.run(sector, 70, 70);
+        hub.load(sector, &record);
+        hub.run(sector, u16::MAX, 50);
+        hub.load(sector, &record);
+        assert_eq!(hub.desk.left, 0);
+        hub.begin();
+        hub.run(sector, 120, 120);
+        hub.fetch(sector, &record);
+        assert_eq!(hub.desk.heard(sector as u32), Ok(MIXED_HEARD));
+    }
+}
+
+/// Its work counts as done, so that Run makes nothing and Fetch takes the words that are there.
+#[test]
+fn a_sector_that_was_never_loaded_is_served() {
+    for left in [0, 120] {
+        let mut hub = Hub::new();
+        hub.desk.left = left;
+        for sector in 0..SECTORS as u32 {
+            hub.run(sector as usize, u16::MAX, 0);
+            assert_eq!(hub.desk.heard(sector), Ok(0));
+            let mut buffer = [7; RESULT_RECORD_BYTES];
+            let fetched = hub.desk.fetch(sector, &[0; AREA_WORDS], &mut buffer);
+            assert_eq!((fetched, buffer[0]), (Ok(()), KIND_RESULT));
+            assert_eq!(buffer[1..], [0; RESULT_RECORD_BYTES - 1]);
+            let fetch = |desk: &mut Desk, lent: &mut Lent, bytes: usize| {
+                desk.fetch(sector, &lent.area, &mut lent.buffer[..bytes])
+            };
+            refused(&hub.desk, |d, l| fetch(d, l, 2048), BufferTooShort);
+            refused(&hub.desk, |d, l| fetch(d, l, 2049), NotTriangular);
+        }
+    }
+}
+
+/// Any numbers are a desk. Those of one sector are of no concern to the others.
+#[test]
+fn a_made_up_desk_is_taken_as_it_is() {
+    let mut hub = Hub::new();
+    hub.desk = Desk {
+        jobs: [at(u32::MAX, u32::MAX); SECTORS],
+        heard: [0xc3; SECTORS],
+        left: u16::MAX,
+    };
+    hub.desk.jobs[2] = at(5, 6);
+    hub.desk.jobs[6] = at(118, 1);
+    assert_eq!(hub.desk.heard(2), Ok(0xc3));
+    hub.run(6, u16::MAX, 2);
+    refused(&hub.desk, |d, l| d.run(2, 1, &mut l.area), NoSuchJob);
+    refused(&hub.desk, |d, l| d.run(7, 0, &mut l.area), NoSuchJob);
+    hub.load(2, &record_of(2));
+    hub.run(2, u16::MAX, 120);
+    assert_eq!(hub.desk.left, u16::MAX - 122);
+    hub.fetch(2, &record_of(2));
+    hub.begin();
+}
+
+/// Another sector is refused first, whatever else is wrong.
+#[test]
+fn no_other_sector_is_served() {
+    let (record, hum) = (mixed_matrix(), equal_parts(2));
+    for sector in NO_SECTORS {
+        for job in [at(7, 5), at(120, 0), at(5, 6)] {
+            for left in [0, 9] {
+                let desk = placed(sector as usize % SECTORS, job, left);
+                let with = NoSuchSector;
+                refused(&desk, |d, l| d.load(sector, &record, &mut l.area), with);
+                refused(&desk, |d, l| d.load(sector, &hum, &mut l.area), with);
+                refused(&desk, |d, _| d.load(sector, &[], &mut []), with);
+                refused(&desk, |d, l| d.run(sector, 1, &mut l.area), with);
+                refused(&desk, |d, _| d.run(sector, 0, &mut []), with);
+                refused(&desk, |d, l| d.fetch(sector, &l.area, &mut l.buffer), with);
+                refused(&desk, |d, _| d.fetch(sector, &[], &mut []), with);
+                refused(&desk, |d, _| d.heard(sector), with);
+            }
+        }
+    }
+}
+
+#[test]
+fn load_refuses() {
+    let (record, hum) = (mixed_matrix(), equal_parts(2));
+    for sector in 0..SECTORS {
+        let desk = placed(sector, at(5, 6), 0);
+        let refuse = |record: &[u8], words: usize, with| {
+            let load =
+                |d: &mut Desk, l: &mut Lent| d.load(sector as u32, record, &mut l.area[..words]);
+            refused(&desk, load, with);
+        };
+        refuse(&[], 512, WrongKind);
+        refuse(&[&[2], &hum[1..256]].concat(), 511, WrongKind);
+        refuse(&hum[..256], 511, WrongLength);
+        refuse(&[&record[..], &[0]].concat(), 512, WrongLength);
+        refuse(&record, 511, AreaTooShort);
+        refuse(&hum, 511, AreaTooShort);
+        refuse(&hum, 512, NoneHeard);
+    }
+}
+
+#[test]
+fn run_refuses() {
+    for sector in 0..SECTORS {
+        let refuse = |job, left, request, words: usize, with| {
+            let desk = placed(sector, job, left);
+            let run =
+                |d: &mut Desk, l: &mut Lent| d.run(sector as u32, request, &mut l.area[..words]);
+            refused(&desk, run, with);
+        };
+        refuse(at(7, 5), 9, 1, 511, AreaTooShort);
+        refuse(at(120, 0), 9, 0, 0, AreaTooShort);
+        refuse(at(5, 6), 0, 1, 511, AreaTooShort);
+        for (left, request) in [(9, 1), (9, 0), (0, 1), (0, 0), (u16::MAX, u16::MAX)] {
+            refuse(at(5, 6), left, request, 512, NoSuchJob);
+            refuse(at(121, 0), left, request, 512, NoSuchJob);
+            refuse(at(120, u32::MAX), left, request, 512, NoSuchJob);
+        }
+        for turn in [0, 7, 119] {
+            for request in [1, 120, 256, u16::MAX] {
+                refuse(at(turn, 0), 0, request, 512, RoundUsedUp);
+                refuse(at(turn, turn), 0, request, 512, RoundUsedUp);
+            }
+        }
+    }
+}
+
+#[test]
+fn fetch_refuses() {
+    for sector in 0..SECTORS {
+        let refuse = |job, words: usize, bytes: usize, with| {
+            let fetch = |d: &mut Desk, l: &mut Lent| {
+                d.fetch(sector as u32, &l.area[..words], &mut l.buffer[..bytes])
+            };
+            refused(&placed(sector, job, 0), fetch, with);
+        };
+        refuse(at(120, 0), 511, 2049, AreaTooShort);
+        refuse(at(5, 6), 511, 2048, AreaTooShort);
+        refuse(at(5, 6), 512, 2048, NoSuchJob);
+        refuse(at(121, 121), 512, 2049, NoSuchJob);
+        refuse(at(119, 119), 512, 2048, Unfinished);
+        refuse(at(0, 0), 512, 2049, Unfinished);
+        refuse(at(120, 120), 512, 2048, BufferTooShort);
+        refuse(at(120, 0), 512, 2049, NotTriangular);
+    }
+}
+
+/// The archive's reply to a refused Run has the desk that it was handed and 0 in all other fields,
+/// those of the job too.
+#[test]
+fn a_refused_run_gives_the_desk_back_and_no_job() {
+    let mut area = [7; AREA_WORDS];
+    let mut given_back = |desk: Desk, sector, words: usize, with: Refusal| {
+        let handed = desk.clone();
+        // SAFETY: the length is at most that of the array.
+        let reply = unsafe { ffi::hubqr_desk_run(handed, sector, 1, area.as_mut_ptr(), words) };
+        let due = ffi::DeskRunReply {
+            desk,
+            number: with.number(),
+            job: at(0, 0),
+            count: 0,
+            clamps_r: 0,
+            clamps_q: 0,
+        };
+        assert_eq!((reply, area), (due, [7; AREA_WORDS]));
+    };
+    for sector in 0..SECTORS as u32 {
+        let desk = |job, left| placed(sector as usize, job, left);
+        given_back(desk(at(7, 5), 9), sector, 511, AreaTooShort);
+        given_back(desk(at(5, 6), 9), sector, 512, NoSuchJob);
+        given_back(desk(at(7, 5), 0), sector, 512, RoundUsedUp);
+    }
+    for sector in NO_SECTORS {
+        given_back(busy(), sector, 512, NoSuchSector);
+    }
+}
+
+/// The other replies to a refused call: the desk as it was, and 0 besides the number.
+#[test]
+fn refused_replies_hold_nothing_else() {
+    let hum = equal_parts(2);
+    let (area, buffer) = (&mut [7; AREA_WORDS], &mut [7; RESULT_RECORD_BYTES]);
+    // SAFETY: pointers and lengths are those of arrays.
+    let (loaded, heard, fetched) = unsafe {
+        (
+            ffi::hubqr_desk_load(busy(), 1, hum.as_ptr(), hum.len(), area.as_mut_ptr(), 512),
+            ffi::hubqr_desk_heard(busy(), 8),
+            ffi::hubqr_desk_fetch(busy(), 1, area.as_ptr(), 512, buffer.as_mut_ptr(), 2049),
+        )
+    };
+    let due = ffi::DeskLoadReply {
+        desk: busy(),
+        number: NoneHeard.number(),
+        heard: 0,
+        job: at(0, 0),
+    };
+    assert_eq!(loaded, due);
+    assert_eq!((heard.desk, heard.number, heard.heard), (busy(), 12, 0));
+    assert_eq!((fetched.desk, fetched.number), (busy(), 6));
+    assert_eq!((area, buffer), (&mut [7; 512], &mut [7; 2049]));
+}

@@ -1,0 +1,201 @@
+/*
+ * SPDX-License-Identifier: Apache-2.0
+ *
+ * hubqr_desk.h - a desk for eight sectors: a radio hub that serves sectors 0 to 7 works the matrix of each in an area of its own,
+ * and the desk deals out the turns that a round has for all of them. hubqr.h includes this header, and what it says on replies,
+ * ownership, threads, aliasing, null, lengths and versions holds here as well.
+ *
+ * Use
+ *   Once:             hubqr_desk_new.
+ *   For each matrix:  hubqr_desk_load, then hubqr_desk_run, over as many rounds as it takes, until desk.jobs[sector].turn is
+ *                     HUBQR_TURNS, then hubqr_desk_fetch. Each is for one sector and is lent the area of that sector.
+ *   For each round:   hubqr_desk_begin, when the host has time for 120 turns more.
+ *   At any time:      hubqr_desk_heard, for the heard byte of a sector.
+ *   Each call is handed the desk and answers it in its reply. By pointer, hubqr_desk_begin_at, hubqr_desk_load_at,
+ *   hubqr_desk_run_at, hubqr_desk_fetch_at and hubqr_desk_heard_at do the same with a desk that stays where it is.
+ *
+ * Words used below
+ *   sector   One of the eight that a hub serves, by its number, 0 to 7. The desk holds its job and its heard byte, which hubqr.h
+ *            explains; its area is the caller's. A sector that was never loaded has the job (120, 0) and heard byte 0, as if
+ *            its work were done.
+ *   round    What the host begins by hubqr_desk_begin; a new desk stands at the start of one. It has HUBQR_ROUND_TURNS turns,
+ *            which is 120, for all sectors together. Turns that a round has left when the next one begins are not added to it.
+ *   request  The most turns that a sector's hubqr_desk_run may go on by.
+ *   granted  How many turns it goes on by: the smallest of its request, what the round has left, and what the sector's job has
+ *            left, which is 120 less its turn number. Clear turns are skipped, as hubqr_run does, and count like any other.
+ *            The round pays what was granted.
+ *
+ * What is proved
+ *   Each call does what is said with it, whatever desk, sector, area, record and buffer it is handed. Besides, let a desk come
+ *   from hubqr_desk_new and each call be handed the desk that the last one answered, that of a refused call too. Let each sector
+ *   have an area that is lent to all calls for that sector and that nobody else writes to, not even a call for another sector:
+ *   the areas of two sectors may not overlap. Then
+ *     a sector's area, job and heard byte are as if it had run alone with the turns granted to it;
+ *     what is granted to a sector depends on the turns granted to the others earlier in the round, and on nothing else of theirs;
+ *     the turns granted in a round are never more than 120;
+ *     each result fetched from a sector that was loaded has the bounds that hubqr.h gives, against the matrix last loaded there.
+ *
+ * Keeping the desk
+ *   The desk is 76 bytes of plain numbers and the caller's own. The last two bytes mean nothing: compare desks field by field,
+ *   not by memcmp. It may be copied and kept anywhere; a stored desk belongs to the version that made it. Calls for one desk go
+ *   one after the other, whatever their sectors, since each needs the desk that the last one answered. An older desk is not
+ *   noticed: its round grants turns a second time, and its jobs no longer fit their areas.
+ *   No call tests the desk as a whole. Every call takes one that the caller has made up as it is, and does with it what is said
+ *   below: `left` may be up to 65,535, and the round then has that many turns; a job that is none, such as (5, 6), is refused
+ *   with 5 at hubqr_desk_run and hubqr_desk_fetch, until its sector is loaded again. What is said of a sector that was loaded,
+ *   or never loaded, is for desks that came from hubqr_desk_new by calls alone.
+ *
+ * Refusals
+ *   A refused call changes nothing: it answers the desk that it was handed, and leaves the area and the buffer as they were. All
+ *   other fields of its reply are 0. A refused hubqr_desk_run answers the job (0, 0) as well, unlike hubqr_run, which answers the
+ *   job that it was handed: keep the desk, which has the sector's job.
+ *   Test 12, whether the sector is above 7, comes before all others. A sector is a number of 32 bits, so that -1, 256 and 65,536
+ *   are refused and not cut to one from 0 to 7. C cuts wider types: keep sectors in 32 bits. A request has 16 bits: C makes 0 of
+ *   65,536, which is accepted and grants nothing.
+ */
+#ifndef HUBQR_DESK_H
+#define HUBQR_DESK_H
+
+#include "hubqr_base.h"
+
+/* Sectors of a hub, and the turns that a round has for all of them. */
+#define HUBQR_SECTORS 8
+#define HUBQR_ROUND_TURNS 120
+
+#ifdef __cplusplus
+extern "C" {
+#endif
+
+/* How far the work for all sectors is, and what the round has left. */
+struct hubqr_desk {
+    struct hubqr_job jobs[HUBQR_SECTORS]; /* the job of sector k at place k */
+    uint8_t heard[HUBQR_SECTORS];         /* the heard byte of sector k at place k */
+    uint16_t left;                        /* the turns that the round has left */
+};
+
+/* A new desk: no sector is loaded, each has the job (120, 0) and heard byte 0, and the round has 120 turns left. */
+struct hubqr_desk hubqr_desk_new(void) HUBQR_REPLY;
+
+/* What beginning a round and Fetch answer. */
+struct hubqr_desk_reply {
+    struct hubqr_desk desk; /* the desk to hand to the next call; refused: the one that was handed over */
+    uint8_t number;         /* HUBQR_ACCEPTED, or the refusal */
+};
+
+/*
+ * Begin: begins a round. What the round has left becomes 120, and nothing else of the desk changes.
+ * No test: it is always accepted.
+ */
+struct hubqr_desk_reply hubqr_desk_begin(struct hubqr_desk desk) HUBQR_REPLY;
+
+/* What a sector's Load answers. */
+struct hubqr_desk_load_reply {
+    struct hubqr_desk desk; /* the desk to hand to the next call; refused: the one that was handed over */
+    uint8_t number;         /* HUBQR_ACCEPTED, or the refusal */
+    uint8_t heard;          /* the sector's heard byte, which is not 0; refused: 0 */
+    struct hubqr_job job;   /* the sector's job, which is (0, 0); refused: (0, 0) too, and the desk has the sector's job */
+};
+
+/*
+ * Load, for a sector: fills the area's 512 words from a matrix record, as hubqr_load does. The sector's job becomes (0, 0), even
+ * if it was unfinished, and its heard byte that of the record. The round pays nothing and is not refilled.
+ * Tests, in this order: 12, 1, 2, 3, 4.
+ */
+struct hubqr_desk_load_reply hubqr_desk_load(struct hubqr_desk desk, uint32_t sector, const uint8_t *record, size_t record_len,
+                                             int32_t *area, size_t area_len)
+    HUBQR_REPLY HUBQR_READS(3, 4) HUBQR_FILLS(5, 6);
+
+/* What a sector's Run answers. */
+struct hubqr_desk_run_reply {
+    struct hubqr_desk desk; /* the desk to hand to the next call; refused: the one that was handed over */
+    uint8_t number;         /* HUBQR_ACCEPTED, or the refusal */
+    struct hubqr_job job;   /* the sector's job; refused: (0, 0), and the desk has the sector's job */
+    uint32_t count;         /* the turns granted, the skipped ones included */
+    uint32_t clamps_r;      /* the clamps counted in this call in columns 0 to 15, which hold R */
+    uint32_t clamps_q;      /* the clamps counted in this call in columns 16 to 31, which hold Q */
+};
+
+/*
+ * Run, for a sector: goes on by the turns granted, as hubqr_run does with the sector's job and that allowance. The desk gets the
+ * sector's next job, and the round has that many turns less. Request 0 and turn number 120 are no errors, whatever the round has
+ * left: no turn is made. So for a sector that was never loaded only tests 12 and 3 can fail, and the area is left as it is.
+ * Tests, in this order: 12; 3; 5, of the sector's job; 13, when the request is above 0, the job's turn number under 120, and the
+ * round has 0 left.
+ */
+struct hubqr_desk_run_reply hubqr_desk_run(struct hubqr_desk desk, uint32_t sector, uint16_t request, int32_t *area,
+                                           size_t area_len)
+    HUBQR_REPLY HUBQR_CHANGES(4, 5);
+
+/*
+ * Fetch, for a sector: writes the result record into the first 2,049 bytes of the buffer, as hubqr_fetch does. The area is only
+ * read, and the desk stays as it is. For a sector that was never loaded, the record has the words that the area has.
+ * Tests, in this order: 12, 3, 5, 6, 7, 8. Test 8 never fails for a sector that was loaded, if desk and area are as said above.
+ */
+struct hubqr_desk_reply hubqr_desk_fetch(struct hubqr_desk desk, uint32_t sector, const int32_t *area, size_t area_len,
+                                         uint8_t *buffer, size_t buffer_len)
+    HUBQR_REPLY HUBQR_READS(3, 4) HUBQR_FILLS(5, 6);
+
+/* What asking for the heard byte answers. */
+struct hubqr_desk_heard_reply {
+    struct hubqr_desk desk; /* the desk that was handed over */
+    uint8_t number;         /* HUBQR_ACCEPTED, or the refusal */
+    uint8_t heard;          /* the desk's heard byte of the sector: that of the matrix last loaded, 0 if none was; refused: 0 */
+};
+
+/*
+ * Heard: answers a sector's heard byte. The desk stays as it is.
+ * Test: 12.
+ */
+struct hubqr_desk_heard_reply hubqr_desk_heard(struct hubqr_desk desk, uint32_t sector) HUBQR_REPLY;
+
+/*
+ * The calls by pointer: the desk is changed in place, and a refusal leaves it as it is. It may not overlap the record, the area
+ * or the buffer. Begin and Fetch answer the number, the others their reply.
+ */
+HUBQR_REPLY HUBQR_NONNULL(1)
+static inline uint8_t hubqr_desk_begin_at(struct hubqr_desk *desk)
+{
+    struct hubqr_desk_reply reply = hubqr_desk_begin(*desk);
+    *desk = reply.desk;
+    return reply.number;
+}
+
+HUBQR_REPLY HUBQR_NONNULL(1) HUBQR_READS(3, 4) HUBQR_FILLS(5, 6)
+static inline struct hubqr_desk_load_reply hubqr_desk_load_at(struct hubqr_desk *desk, uint32_t sector, const uint8_t *record,
+                                                              size_t record_len, int32_t *area, size_t area_len)
+{
+    struct hubqr_desk_load_reply reply = hubqr_desk_load(*desk, sector, record, record_len, area, area_len);
+    *desk = reply.desk;
+    return reply;
+}
+
+HUBQR_REPLY HUBQR_NONNULL(1) HUBQR_CHANGES(4, 5)
+static inline struct hubqr_desk_run_reply hubqr_desk_run_at(struct hubqr_desk *desk, uint32_t sector, uint16_t request,
+                                                            int32_t *area, size_t area_len)
+{
+    struct hubqr_desk_run_reply reply = hubqr_desk_run(*desk, sector, request, area, area_len);
+    *desk = reply.desk;
+    return reply;
+}
+
+HUBQR_REPLY HUBQR_NONNULL(1) HUBQR_READS(3, 4) HUBQR_FILLS(5, 6)
+static inline uint8_t hubqr_desk_fetch_at(struct hubqr_desk *desk, uint32_t sector, const int32_t *area, size_t area_len,
+                                          uint8_t *buffer, size_t buffer_len)
+{
+    struct hubqr_desk_reply reply = hubqr_desk_fetch(*desk, sector, area, area_len, buffer, buffer_len);
+    *desk = reply.desk;
+    return reply.number;
+}
+
+/* The desk is only read. */
+HUBQR_REPLY HUBQR_NONNULL(1)
+static inline struct hubqr_desk_heard_reply hubqr_desk_heard_at(const struct hubqr_desk *desk, uint32_t sector)
+{
+    return hubqr_desk_heard(*desk, sector);
+}
+
+#ifdef __cplusplus
+}
+#endif
+
+#endif

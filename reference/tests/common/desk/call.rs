@@ -1,0 +1,75 @@
+//! The calls at the desk as values, so that a history of them can be drawn, made and made again.
+
+use std::fmt::{self, Display};
+
+use reference::area::AREA_WORDS;
+use reference::records::RESULT_RECORD;
+
+use crate::common::twin::hexadecimal;
+
+/// A call, with what is handed over beside the desk.
+#[derive(Debug, Clone)]
+pub enum Call {
+    Begin,
+    Load { sector: u32, record: Vec<u8> },
+    Run { sector: u32, request: u16 },
+    Fetch { sector: u32 },
+    Heard { sector: u32 },
+}
+
+impl Call {
+    pub fn name(&self) -> &'static str {
+        match self {
+            Call::Begin => "Begin",
+            Call::Load { .. } => "Load",
+            Call::Run { .. } => "Run",
+            Call::Fetch { .. } => "Fetch",
+            Call::Heard { .. } => "Heard",
+        }
+    }
+
+    /// The sector that the call is for. A round begins for all.
+    pub fn sector(&self) -> Option<u32> {
+        match *self {
+            Call::Begin => None,
+            Call::Load { sector, .. }
+            | Call::Run { sector, .. }
+            | Call::Fetch { sector }
+            | Call::Heard { sector } => Some(sector),
+        }
+    }
+}
+
+impl Display for Call {
+    fn fmt(&self, f: &mut fmt::Formatter) -> fmt::Result {
+        write!(f, "{}", self.name())?;
+        if let Some(sector) = self.sector() {
+            write!(f, " for sector {sector}")?;
+        }
+        match self {
+            Call::Load { record, .. } => write!(f, " of {}", hexadecimal(record)),
+            Call::Run { request, .. } => write!(f, " of {request}"),
+            _ => Ok(()),
+        }
+    }
+}
+
+/// What a call is lent: the first words of one of the areas, and the first bytes of the buffer. A
+/// call that has no use for them is not lent them.
+#[derive(Debug, Clone, Copy)]
+pub struct Lent {
+    pub area: usize,
+    pub words: usize,
+    pub bytes: usize,
+}
+
+impl Lent {
+    /// An area and a buffer that are just long enough.
+    pub fn area(area: usize) -> Self {
+        Lent {
+            area,
+            words: AREA_WORDS,
+            bytes: RESULT_RECORD,
+        }
+    }
+}

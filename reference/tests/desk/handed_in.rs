@@ -1,0 +1,89 @@
+//! Desks that a host made up: every call takes them as they are.
+
+use reference::desk::{Desk, Seat};
+use reference::job::Job;
+use reference::random::Random;
+
+use crate::common::desk::{BothDesk, Seen};
+use crate::common::words::{any_job, arbitrary_area};
+use crate::common::Case;
+use crate::steps::{Areas, Steps};
+
+/// Cases of eight desks each, and histories.
+const CASES: u64 = 1_500;
+const HISTORIES: u64 = 300;
+
+/// Any number, of one of many sizes.
+fn any_number(random: &mut Random) -> u32 {
+    random.word() as u32 >> random.below(32)
+}
+
+/// A job that exists, one next to it, or anything.
+fn any_seat(random: &mut Random) -> Seat {
+    let mut job = any_job(random);
+    match random.below(6) {
+        0 => job.made = job.turn + 1,
+        1 => job.turn = random.choose(&[120, 121, 122, 128]),
+        2 => job = Job::new(any_number(random), any_number(random)),
+        3 => job.turn = 120,
+        _ => {}
+    }
+    let heard = random.byte();
+    Seat { job, heard }
+}
+
+fn any_desk(random: &mut Random) -> Desk {
+    let left = match random.below(4) {
+        0 => random.choose(&[0, 0, 1, 119, 121, 0x7FFF, 0x8000, u16::MAX]),
+        1 => random.below(121) as u16,
+        _ => any_number(random) as u16,
+    };
+    Desk {
+        seats: std::array::from_fn(|_| any_seat(random)),
+        left,
+    }
+}
+
+/// Calls of every kind, each handed a desk of its own, on areas of arbitrary words.
+#[test]
+fn desks_that_are_made_up_agree() {
+    let mut seen = Seen::default();
+    let steps = Steps {
+        areas: Areas::Any,
+        served: 8,
+    };
+    for number in 0..CASES {
+        let case = Case::of_words("made-up desks", 1161, number);
+        let mut random = case.random();
+        let mut both = BothDesk::new(case, &mut seen);
+        both.fill_area(0, &arbitrary_area(&mut random));
+        both.fill_area(1, &[0; 512]);
+        for _ in 0..8 {
+            let mut step = steps.draw(&mut random);
+            step.lent.area = random.below(3);
+            both.call_handed(&any_desk(&mut random), &step.call, step.lent);
+        }
+    }
+    seen.print("Made-up desks");
+    seen.assert_numbers(&[1, 2, 3, 4, 5, 6, 7, 8, 12, 13]);
+}
+
+/// Histories that begin with such a desk and go on with those that are answered. A seat with no job
+/// stays so until its sector is loaded, and a round may have more than 120 turns.
+#[test]
+fn histories_from_desks_that_are_made_up_agree() {
+    let mut seen = Seen::default();
+    for number in 0..HISTORIES {
+        let case = Case::of_words("made-up histories", 1162, number);
+        let mut random = case.random();
+        let areas = random.choose(&[Areas::Own, Areas::Any]);
+        let steps = Steps { areas, served: 8 };
+        let mut both = BothDesk::new(case, &mut seen);
+        both.hand_in(any_desk(&mut random));
+        for _ in 0..30 {
+            steps.draw(&mut random).make(&mut both);
+        }
+    }
+    seen.print("Histories from made-up desks");
+    seen.assert_numbers(&[1, 2, 3, 4, 5, 6, 7, 8, 12, 13]);
+}

@@ -1,0 +1,219 @@
+//! Every refusal number with every set of failing tests, so that the order of the tests decides.
+
+use std::collections::BTreeSet;
+
+use reference::area::AREA_WORDS;
+use reference::cases::Kind;
+use reference::desk::Desk;
+use reference::job::Job;
+use reference::random::Random;
+use reference::records::write_matrix;
+
+use crate::common::desk::{BothDesk, Call, Lent, Seen};
+use crate::common::Case;
+use crate::steps::{desk_of, BEYOND};
+
+/// Ways to pass a test, first, and to fail it.
+const WORDS: [usize; 5] = [512, 513, 0, 1, 511];
+const BYTES: [usize; 5] = [2049, 2050, 0, 1, 2048];
+const KINDS: [u8; 5] = [1, 0, 2, 0x81, 0xFF];
+const LENGTHS: [usize; 6] = [257, 0, 1, 256, 258, 2049];
+
+const REQUESTS: [u16; 4] = [0, 1, 120, u16::MAX];
+const LEFT: [u16; 5] = [0, 1, 119, 120, u16::MAX];
+
+/// Jobs that exist, and others. They stand at every seat of a desk, so that a sector above 7 fails
+/// the same tests as the others, whichever of them it could be taken for.
+const JOBS: [Job; 14] = [
+    Job::new(0, 0),
+    Job::new(5, 5),
+    Job::new(119, 0),
+    Job::new(119, 119),
+    Job::new(120, 0),
+    Job::new(120, 120),
+    Job::new(0, 1),
+    Job::new(5, 6),
+    Job::new(119, u32::MAX),
+    Job::new(120, 121),
+    Job::new(121, 0),
+    Job::new(256, 5),
+    Job::new(1 << 31, 1 << 31),
+    Job::new(u32::MAX, 0),
+];
+
+/// Whether test 5 fails.
+fn is_no_job(job: Job) -> bool {
+    job.turn > 120 || job.made > job.turn
+}
+
+/// Sectors of a hub, and others.
+fn sectors() -> impl Iterator<Item = u32> + Clone {
+    [0, 3, 7].into_iter().chain(BEYOND)
+}
+
+/// Makes calls and gathers the sets of tests that fail.
+struct Numbers<'a> {
+    both: BothDesk<'a>,
+    sets: BTreeSet<Vec<u8>>,
+}
+
+impl<'a> Numbers<'a> {
+    fn new(test: &'static str, seed: u64, seen: &'a mut Seen) -> Self {
+        Numbers {
+            both: BothDesk::new(Case::of_words(test, seed, 0), seen),
+            sets: BTreeSet::new(),
+        }
+    }
+
+    /// Makes a call of which these tests fail, of all in the order in which they are made. It
+    /// answers the first of them, or is accepted.
+    fn call<const N: usize>(
+        &mut self,
+        desk: &Desk,
+        call: &Call,
+        lent: Lent,
+        tests: [(u8, bool); N],
+    ) {
+        let failing = tests.into_iter().filter(|(_, fails)| *fails);
+        let failing: Vec<u8> = failing.map(|(number, _)| number).collect();
+        let due = failing.first().copied().unwrap_or(0);
+        let reply = self.both.call_handed(desk, call, lent);
+        let right = reply.number == due;
+        self.both.require(right, &format!("failing {failing:?}"));
+        self.sets.insert(failing);
+    }
+
+    /// Every set of so many tests has failed.
+    fn assert_all_sets(&self, tests: u32) {
+        assert_eq!(self.sets.len(), 1 << tests, "not every set of tests failed");
+    }
+}
+
+/// A matrix record with its kind, its length and its antennas in one of the ways.
+fn matrix_record(kind: u8, length: usize, heard: bool) -> Vec<u8> {
+    let matrix = Kind::FullRange.matrix(&mut Random::new(1122));
+    let matrix = matrix.with_diagonal(|_| if heard { 17 } else { 16 });
+    let mut record = write_matrix(&matrix).to_vec();
+    record[0] = kind;
+    record.resize(length, 9);
+    record
+}
+
+#[test]
+fn a_refused_load_answers_the_first_test_that_fails() {
+    let mut seen = Seen::default();
+    let mut numbers = Numbers::new("sets of tests at Load", 1121, &mut seen);
+    for (kind, length) in KINDS
+        .into_iter()
+        .flat_map(|kind| LENGTHS.map(|n| (kind, n)))
+    {
+        for heard in [true, false] {
+            let record = matrix_record(kind, length, heard);
+            for (sector, words) in sectors().flat_map(|sector| WORDS.map(|n| (sector, n))) {
+                let lent = Lent {
+                    words,
+                    ..Lent::area(0)
+                };
+                let record = record.clone();
+                let tests = [
+                    (12, sector > 7),
+                    (1, kind != 1 || length == 0),
+                    (2, length != 257),
+                    (3, words < AREA_WORDS),
+                    (4, !heard),
+                ];
+                let call = Call::Load { sector, record };
+                numbers.call(&desk_of(Job::new(5, 6), 0), &call, lent, tests);
+            }
+        }
+    }
+    numbers.assert_all_sets(5);
+    seen.print("Sets of tests at Load");
+}
+
+#[test]
+fn a_refused_run_answers_the_first_test_that_fails() {
+    let mut seen = Seen::default();
+    let mut numbers = Numbers::new("sets of tests at Run", 1123, &mut seen);
+    for (job, left) in JOBS
+        .into_iter()
+        .flat_map(|job| LEFT.map(|left| (job, left)))
+    {
+        for (sector, words) in sectors().flat_map(|sector| WORDS.map(|n| (sector, n))) {
+            for request in REQUESTS {
+                let lent = Lent {
+                    words,
+                    ..Lent::area(0)
+                };
+                let tests = [
+                    (12, sector > 7),
+                    (3, words < AREA_WORDS),
+                    (5, is_no_job(job)),
+                    (13, request > 0 && job.turn < 120 && left == 0),
+                ];
+                let call = Call::Run { sector, request };
+                numbers.call(&desk_of(job, left), &call, lent, tests);
+            }
+        }
+    }
+    numbers.assert_all_sets(4);
+    seen.print("Sets of tests at Run");
+}
+
+/// Words that Fetch accepts, with one under the diagonal, and with a negative one on it.
+fn areas() -> [[i32; AREA_WORDS]; 3] {
+    let (mut under, mut negative) = ([0; AREA_WORDS], [0; AREA_WORDS]);
+    under[15 * 32 + 14] = 1;
+    negative[14 * 32 + 14] = -1;
+    [[0; AREA_WORDS], under, negative]
+}
+
+#[test]
+fn a_refused_fetch_answers_the_first_test_that_fails() {
+    let mut seen = Seen::default();
+    let mut numbers = Numbers::new("sets of tests at Fetch", 1124, &mut seen);
+    for (area, words) in areas().iter().enumerate() {
+        numbers.both.fill_area(area, words);
+    }
+    for (job, bytes) in JOBS.into_iter().flat_map(|job| BYTES.map(|n| (job, n))) {
+        for (sector, words) in sectors().flat_map(|sector| WORDS.map(|n| (sector, n))) {
+            for area in 0..3 {
+                let lent = Lent { area, words, bytes };
+                let tests = [
+                    (12, sector > 7),
+                    (3, words < AREA_WORDS),
+                    (5, is_no_job(job)),
+                    (6, job.turn < 120),
+                    (7, bytes < 2049),
+                    (8, area > 0),
+                ];
+                let call = Call::Fetch { sector };
+                numbers.call(&desk_of(job, 0), &call, lent, tests);
+            }
+        }
+    }
+    numbers.assert_all_sets(6);
+    seen.print("Sets of tests at Fetch");
+}
+
+/// Neither looks at a job or at what is left, and a round begins at any desk.
+#[test]
+fn heard_refuses_sectors_above_7_and_begin_nothing() {
+    let mut seen = Seen::default();
+    let mut numbers = Numbers::new("sets of tests at Heard", 1125, &mut seen);
+    for (job, left) in JOBS
+        .into_iter()
+        .flat_map(|job| LEFT.map(|left| (job, left)))
+    {
+        let desk = desk_of(job, left);
+        for sector in sectors() {
+            let call = Call::Heard { sector };
+            numbers.call(&desk, &call, Lent::area(0), [(12, sector > 7)]);
+        }
+        let reply = numbers.both.call_handed(&desk, &Call::Begin, Lent::area(0));
+        assert_eq!(reply.number, 0);
+        assert_eq!(reply.desk, Desk { left: 120, ..desk });
+    }
+    numbers.assert_all_sets(1);
+    seen.print("Sets of tests at Heard, and Begin");
+}

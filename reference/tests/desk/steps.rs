@@ -1,0 +1,186 @@
+//! Random steps of a history: calls of every kind, accepted and refused, in any order.
+
+use reference::cases::Kind;
+use reference::desk::{Desk, DeskReply, Seat};
+use reference::job::Job;
+use reference::random::Random;
+use reference::records::write_matrix;
+
+use crate::common::desk::{BothDesk, Call, Lent};
+
+/// Sectors that no hub has. The low bits of some are those of one that it has.
+pub const BEYOND: [u32; 9] = [
+    8,
+    9,
+    255,
+    256,
+    263,
+    1 << 16,
+    1 << 31,
+    u32::MAX - 7,
+    u32::MAX,
+];
+
+const REQUESTS: [u16; 12] = [0, 1, 2, 7, 15, 15, 30, 60, 119, 120, 121, u16::MAX];
+
+/// A desk that has the same job at every seat.
+pub fn desk_of(job: Job, left: u16) -> Desk {
+    let seat = |k| Seat {
+        job,
+        heard: 31 * k as u8 + 5,
+    };
+    Desk {
+        seats: std::array::from_fn(seat),
+        left,
+    }
+}
+
+/// One call of a history.
+#[derive(Debug, Clone)]
+pub struct Step {
+    pub call: Call,
+    pub lent: Lent,
+    /// What stands in the place of the sector's job at the desk that is handed over: no job. The
+    /// call is refused, and the next one is handed the desk that was there before.
+    pub no_job: Option<Job>,
+}
+
+impl Step {
+    /// The desk that is handed over in the place of this one.
+    pub fn handed(&self, desk: &Desk) -> Desk {
+        let mut handed = *desk;
+        if let (Some(job), Some(sector)) = (self.no_job, self.call.sector()) {
+            handed.seats[sector as usize].job = job;
+        }
+        handed
+    }
+
+    /// Makes the call. Only a desk with no such job in it is not the one that goes on.
+    pub fn make(&self, both: &mut BothDesk) -> DeskReply {
+        if self.no_job.is_some() {
+            let handed = self.handed(both.desk());
+            both.call_handed(&handed, &self.call, self.lent)
+        } else {
+            both.call(&self.call, self.lent)
+        }
+    }
+}
+
+/// Which area a call is lent.
+#[derive(Debug, Clone, Copy, PartialEq, Eq)]
+pub enum Areas {
+    /// That of its sector.
+    Own,
+    /// Any of the eight.
+    Any,
+}
+
+/// How the steps of one history are drawn.
+#[derive(Debug, Clone, Copy)]
+pub struct Steps {
+    pub areas: Areas,
+    /// How many sectors are served. Where they are few, a job is worked on for longer.
+    pub served: u32,
+}
+
+impl Steps {
+    pub fn draw(self, random: &mut Random) -> Step {
+        let sector = any_sector(self.served, random);
+        let call = any_call(sector, random);
+        let area = match self.areas {
+            Areas::Own if sector < 8 => sector as usize,
+            _ => random.below(8),
+        };
+        let lent = any_lent(area, random);
+        let tested = matches!(call, Call::Run { .. } | Call::Fetch { .. });
+        let no_job = (tested && sector < 8 && random.one_in(16)).then(|| no_job(random));
+        Step { call, lent, no_job }
+    }
+}
+
+fn any_sector(served: u32, random: &mut Random) -> u32 {
+    if random.one_in(16) {
+        random.choose(&BEYOND)
+    } else {
+        random.below(served as usize) as u32
+    }
+}
+
+pub fn any_call(sector: u32, random: &mut Random) -> Call {
+    match random.below(20) {
+        0..=1 => Call::Begin,
+        2..=3 => Call::Heard { sector },
+        4..=6 => Call::Fetch { sector },
+        7..=9 => Call::Load {
+            sector,
+            record: any_record(random),
+        },
+        _ => Call::Run {
+            sector,
+            request: any_request(random),
+        },
+    }
+}
+
+pub fn any_request(random: &mut Random) -> u16 {
+    if random.one_in(4) {
+        random.part() as u16 >> random.below(16)
+    } else {
+        random.choose(&REQUESTS)
+    }
+}
+
+/// Lengths around those that are just enough. Most are enough.
+pub fn any_lent(area: usize, random: &mut Random) -> Lent {
+    let words: &[usize] = if random.one_in(12) {
+        &[0, 1, 511]
+    } else {
+        &[512, 513, 520]
+    };
+    let bytes: &[usize] = if random.one_in(6) {
+        &[0, 1, 2048]
+    } else {
+        &[2049, 2050, 2057]
+    };
+    Lent {
+        area,
+        words: random.choose(words),
+        bytes: random.choose(bytes),
+    }
+}
+
+/// A record that Load accepts. At least every other matrix has zeros in whole regions, so that many
+/// of its turns are skipped.
+pub fn good_record(random: &mut Random) -> Vec<u8> {
+    let kinds: &[Kind] = if random.one_in(2) {
+        &Kind::WITH_ZEROS
+    } else {
+        &Kind::ALL
+    };
+    let kind = random.choose(kinds);
+    write_matrix(&kind.matrix(random)).to_vec()
+}
+
+/// A record of which Load accepts three in four. The others are refused with 1, 2 or 4.
+fn any_record(random: &mut Random) -> Vec<u8> {
+    let mut record = good_record(random);
+    match random.below(16) {
+        0 => record[0] = random.choose(&[0, 2, 3, 0x81]),
+        1 => record.truncate(random.choose(&[0, 1, 256])),
+        2 => record.push(random.byte()),
+        3 => (0..8).for_each(|k| record[1 + 36 * k..][..2].copy_from_slice(&[0, 16])),
+        _ => {}
+    }
+    record
+}
+
+/// A job that test 5 refuses.
+fn no_job(random: &mut Random) -> Job {
+    let beyond = [121, 255, 256, 1 << 16, u32::MAX];
+    let turn = random.below(121) as u32;
+    match random.below(3) {
+        0 => Job::new(turn, turn + 1),
+        1 => Job::new(turn, random.choose(&beyond)),
+        _ => Job::new(random.choose(&beyond), turn),
+    }
+}
