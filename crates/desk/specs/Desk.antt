@@ -31,11 +31,11 @@ abbrev pub sectorTest : ℕ → ℕ
 sectorTest sector = failsIf (ltb 7 sector) noSuchSector
 
 -- above 7 there is none, and nothing is read: test 12 comes first
-abbrev pub jobOf : Desk → ℕ → Job
-jobOf desk sector = getD (desk .jobs) sector noJob
+abbrev pub jobAt : Desk → ℕ → Job
+jobAt desk sector = getD (desk .jobs) sector noJob
 
-abbrev pub heardOf : Desk → ℕ → ℕ
-heardOf desk sector = getD (desk .heard) sector 0
+abbrev pub heardAt : Desk → ℕ → ℕ
+heardAt desk sector = getD (desk .heard) sector 0
 
 -- ---- what changes
 

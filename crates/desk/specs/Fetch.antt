@@ -6,7 +6,7 @@ use Rattle.refusals.specs.Refusals.{first}
 use Rattle.engine.specs.Fetch.{fetchRefusal, fetchBy}
 use Rattle.desk.specs.declared.Desk.{Desk}
 use Rattle.desk.specs.declared.DeskReply.{DeskReply}
-use Rattle.desk.specs.Desk.{sectorTest, jobOf}
+use Rattle.desk.specs.Desk.{sectorTest, jobAt}
 
 pub record DeskFetchOutcome : Type 0 where
   pub reply : DeskReply
@@ -14,7 +14,7 @@ pub record DeskFetchOutcome : Type 0 where
 
 -- test 12, and then the engine's tests for Fetch
 unfoldable pub deskFetchRefusal : Desk → ℕ → List ℤ → List ℕ → ℕ
-deskFetchRefusal desk sector area buffer = first (sectorTest sector) (fetchRefusal (jobOf desk sector) area buffer)
+deskFetchRefusal desk sector area buffer = first (sectorTest sector) (fetchRefusal (jobAt desk sector) area buffer)
 
 -- by that number. The engine's Fetch is done, or nothing is; the desk is as it was
 unfoldable pub deskFetchBy : ℕ → Desk → List ℤ → List ℕ → DeskFetchOutcome

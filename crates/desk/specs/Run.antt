@@ -11,7 +11,7 @@ use Rattle.engine.specs.Job.{noJob}
 use Rattle.engine.specs.Run.{runRefusal, runDone}
 use Rattle.desk.specs.declared.Desk.{Desk}
 use Rattle.desk.specs.declared.run.DeskRunReply.{DeskRunReply}
-use Rattle.desk.specs.Desk.{sectorTest, jobOf, paid}
+use Rattle.desk.specs.Desk.{sectorTest, jobAt, paid}
 
 pub record DeskRunOutcome : Type 0 where
   pub reply : DeskRunReply
@@ -24,7 +24,7 @@ roundTest job left request = failsIf (ltb 0 request && (ltb (job .turn) rotation
 -- test 12, the engine's tests for Run, and then 13
 unfoldable pub deskRunRefusal : Desk → ℕ → ℕ → List ℤ → ℕ
 deskRunRefusal desk sector request area =
-    first (sectorTest sector) (first (runRefusal (jobOf desk sector) area) (roundTest (jobOf desk sector) (desk .left) request))
+    first (sectorTest sector) (first (runRefusal (jobAt desk sector) area) (roundTest (jobAt desk sector) (desk .left) request))
 
 -- the smallest of the request, what the round has left and what the job has left
 abbrev pub grant : Job → ℕ → ℕ → ℕ
@@ -33,7 +33,7 @@ grant job left request = min (min request left) (rotationCount - job .turn)
 -- the sector's job is worked `count` turns on, as the engine's Run does it, and the round pays them
 unfoldable pub deskRunDone : Desk → ℕ → ℕ → List ℤ → DeskRunOutcome
 deskRunDone desk sector count area =
-    let o = runDone (jobOf desk sector) count area in
+    let o = runDone (jobAt desk sector) count area in
     let r = o .reply in
     record {
       reply = record { desk = paid desk sector (r .job) count; number = 0; job = r .job; count = r .count; «clamps_r» = r .«clamps_r»; «clamps_q» = r .«clamps_q» };
@@ -42,7 +42,7 @@ deskRunDone desk sector count area =
 
 -- by the number of the tests; a refusal answers its number and the desk as it was, other fields 0, the job too, and changes nothing
 unfoldable pub deskRunBy : ℕ → Desk → ℕ → ℕ → List ℤ → DeskRunOutcome
-deskRunBy zero desk sector request area = deskRunDone desk sector (grant (jobOf desk sector) (desk .left) request) area
+deskRunBy zero desk sector request area = deskRunDone desk sector (grant (jobAt desk sector) (desk .left) request) area
 deskRunBy (suc n) desk sector request area =
     record { reply = record { desk = desk; number = suc n; job = noJob; count = 0; «clamps_r» = 0; «clamps_q» = 0 }; area = area }
 

@@ -3,7 +3,7 @@ use crate::Desk;
 use engine::job::Job;
 ghost use mathlib.Core.Path.{_≡_};
 ghost use Prim.Native.Nat.{_<_, _≤_};
-ghost use Rattle.desk.specs.Desk.{sectorCount, sectorTest, jobOf, heardOf, seated, paid};
+ghost use Rattle.desk.specs.Desk.{sectorCount, sectorTest, jobAt, heardAt, seated, paid};
 
 // The number of test 12 if it fails, else 0.
 pub fn sector_refusal(sector: u32) -> u8
@@ -17,7 +17,7 @@ pub fn sector_refusal(sector: u32) -> u8
 
 pub fn job_of(desk: Desk, sector: u32) -> Job
     requires { ⌜ sector < sectorCount ⌝ }
-    ensures { λ r. ⌜ r ≡ jobOf desk sector ⌝ }
+    ensures { λ r. ⌜ r ≡ jobAt desk sector ⌝ }
 {
     let jobs = desk.jobs;
     jobs[sector as usize]
@@ -25,7 +25,7 @@ pub fn job_of(desk: Desk, sector: u32) -> Job
 
 pub fn heard_of(desk: Desk, sector: u32) -> u8
     requires { ⌜ sector < sectorCount ⌝ }
-    ensures { λ r. ⌜ r ≡ heardOf desk sector ⌝ }
+    ensures { λ r. ⌜ r ≡ heardAt desk sector ⌝ }
 {
     let heard = desk.heard;
     heard[sector as usize]

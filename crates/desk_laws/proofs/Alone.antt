@@ -1,13 +1,14 @@
 -- A sector is as if it had run alone with the turns granted. Assumes nothing.
 use mathlib.Core.Path.{_≡_, refl, sym, ap, _∙_}
 use mathlib.Core.List.{List, [], _∷_}
-use Prim.Native.Nat.{ℕ, zero, suc, _-_, _<_, min}
+use Prim.Native.Nat.{ℕ, zero, suc, _<_}
 use native.Mathlib.Omega.{arith}
 use Rattle.lists.specs.Histories.{afterAll}
 use Rattle.lists.proofs.Histories.{after-append, Along, along-of}
 use Rattle.refusals.proofs.Refusals.{first-none}
 use Rattle.engine.specs.Load.{loadBy, loadOf}
-use Rattle.engine.specs.Run.{runRefusal, runDone, runBy, runOf}
+use Rattle.engine.specs.Run.{runRefusal, runDone}
+use Rattle.engine.proofs.Taken.{all-taken}
 use Rattle.desk_laws.specs.Calls.{Lent, its, another, Call, load, run, fetch, heard, begin, Hub, new, lentWords, Answer, answer, next, after, Accepted, Kind, own, other, round, kind, Its, LentIts, OwnLent, EachLentIts}
 use Rattle.desk_laws.specs.Alone.{Alone, aloneNext, aloneAfter, worksOf, works, standing, AsAlone}
 use Rattle.desk_laws.proofs.Seats.{Seat, seat, Eight, loadSeat, runSeat, loadNumber, runNumber, fetchNumber, seatGrant, ownNext, loadAnswer, runAnswer, ownAnswer, own-next, own-answer, other-passes, round-next, eight-next, eight-new}
@@ -28,11 +29,9 @@ load-alone a j rec lent (suc n) e u = refl
 run-alone : (a : Seat) (j request : ℕ) (lent : Lent) (n : ℕ) → runNumber a request lent ≡ n
     → (let r = runAnswer n (a .job) (seatGrant a request) (lentWords (a .area) lent) in
     (r .number ≡ 0 → Its lent) → aloneOf (runSeat n a (seatGrant a request) lent) ≡ aloneAfter (aloneOf a) (worksOf own (r .number) (run j request lent) (r .count)))
-unfolding afterAll aloneNext runOf runBy runDone
+unfolding afterAll aloneNext runDone
 run-alone a j request its zero e u =
-    let k = seatGrant a request in
-    let z : min k (120 - a .job .turn) ≡ k = omega arith in
-    rw (first-none (runRefusal (a .job) (a .area)) _ e .0, z)
+    rw (all-taken (a .job) (seatGrant a request) (a .area) (first-none (runRefusal (a .job) (a .area)) _ e .0) (omega arith))
 run-alone a j request (another m) zero e u = absurd (u refl)
 run-alone a j request lent (suc n) e u = refl
 

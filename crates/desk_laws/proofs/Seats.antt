@@ -17,7 +17,7 @@ use Rattle.engine.specs.Load.{loadRefusal, loadBy}
 use Rattle.engine.specs.Run.{runRefusal, runDone}
 use Rattle.engine.specs.Fetch.{fetchRefusal, fetchBy}
 use Rattle.desk.specs.declared.Desk.{Desk}
-use Rattle.desk.specs.Desk.{sectorTest, jobOf, heardOf, beginOf}
+use Rattle.desk.specs.Desk.{sectorTest, jobAt, heardAt, beginOf}
 use Rattle.desk.specs.Load.{deskLoadRefusal, deskLoadBy, deskLoadOf}
 use Rattle.desk.specs.Run.{roundTest, deskRunRefusal, grant, deskRunDone, deskRunBy, deskRunOf}
 use Rattle.desk.specs.Fetch.{deskFetchRefusal, deskFetchBy, deskFetchOf}
@@ -32,7 +32,7 @@ pub record Seat : Type 0 where
   pub area : List ℤ
 
 abbrev pub seat : ℕ → Hub → Seat
-seat i h = record { job = jobOf (h .desk) i; heard = heardOf (h .desk) i; left = h .desk .left; area = h .area i }
+seat i h = record { job = jobAt (h .desk) i; heard = heardAt (h .desk) i; left = h .desk .left; area = h .area i }
 
 -- arrays of eight, as a desk from a new one on has them
 pub record Eight (d : Desk) : Type 0 where
@@ -228,7 +228,7 @@ module _ (h : Hub) (i : ℕ) (small : i < 8) (w : Eight (h .desk)) where
   load-told rec lent zero = refl
   load-told rec lent (suc n) = refl
 
-  run-told : (request : ℕ) (lent : Lent) (n : ℕ) → runTold h i request lent n ≡ runAnswer n (jobOf (h .desk) i) (seatGrant (seat i h) request) (lentWords (h .area i) lent)
+  run-told : (request : ℕ) (lent : Lent) (n : ℕ) → runTold h i request lent n ≡ runAnswer n (jobAt (h .desk) i) (seatGrant (seat i h) request) (lentWords (h .area i) lent)
   unfolding deskRunBy deskRunDone
   run-told request lent zero = refl
   run-told request lent (suc n) = refl
@@ -261,30 +261,30 @@ pub record Passed (i : ℕ) (h g : Hub) (count : ℕ) : Type 0 where
   pub seat : seat i g ≡ less (seat i h) count
   pub left : count ≤ h .desk .left
 
-module _ (h : Hub) (i j : ℕ) (d : i ≡ j → ⊥) where
-  none-less : less (seat i h) 0 ≡ seat i h
-  none-less = let z : h .desk .left - 0 ≡ h .desk .left = omega arith in rw z
+none-less : (h : Hub) (i : ℕ) → less (seat i h) 0 ≡ seat i h
+none-less h i = let z : h .desk .left - 0 ≡ h .desk .left = omega arith in rw z
 
+module _ (h : Hub) (i j : ℕ) (d : i ≡ j → ⊥) where
   load-passes : (rec : List ℕ) (lent : Lent) (n : ℕ) → Passed i h (loadHub h j rec lent n) 0
   unfolding deskLoadBy
   load-passes rec lent zero = record {
-    seat = rw (getD-set-other (h .desk .jobs) j i _ noJob d, getD-set-other (h .desk .heard) j i _ 0 d, put-other (h .area) i j _ d) (sym none-less);
+    seat = rw (getD-set-other (h .desk .jobs) j i _ noJob d, getD-set-other (h .desk .heard) j i _ 0 d, put-other (h .area) i j _ d) (sym (none-less h i));
     left = omega arith;
   }
-  load-passes rec lent (suc n) = record { seat = rw (put-other (h .area) i j _ d) (sym none-less); left = omega arith }
+  load-passes rec lent (suc n) = record { seat = rw (put-other (h .area) i j _ d) (sym (none-less h i)); left = omega arith }
 
   run-passes : (request : ℕ) (lent : Lent) (n : ℕ) → Passed i h (runHub h j request lent n) (runTold h j request lent n .count)
   unfolding deskRunBy deskRunDone runDone
   run-passes request lent zero = record { seat = rw (getD-set-other (h .desk .jobs) j i _ noJob d, put-other (h .area) i j _ d); left = omega arith }
-  run-passes request lent (suc n) = record { seat = rw (put-other (h .area) i j _ d) (sym none-less); left = omega arith }
+  run-passes request lent (suc n) = record { seat = rw (put-other (h .area) i j _ d) (sym (none-less h i)); left = omega arith }
 
 pub other-passes : (h : Hub) (i : ℕ) (c : Call) → kind i c ≡ other → Passed i h (next h c) (answer h c .count)
 unfolding next answer deskLoadOf deskRunOf deskFetchOf deskFetchBy deskHeardOf
 other-passes h i (load j rec lent) e = load-passes h i j (other-is i j e) rec lent (deskLoadRefusal j rec (lentWords (h .area j) lent))
 other-passes h i (run j request lent) e = run-passes h i j (other-is i j e) request lent (deskRunRefusal (h .desk) j request (lentWords (h .area j) lent))
-other-passes h i (fetch j buffer lent) e = record { seat = sym (none-less h i j (other-is i j e)); left = omega arith }
+other-passes h i (fetch j buffer lent) e = record { seat = sym (none-less h i); left = omega arith }
 other-passes h i (heard j) e =
-    record { seat = ap (λ (d : Desk). seat i (record { desk = d; area = h .area })) (heard-desk (sectorTest j) (h .desk) j) ∙ sym (none-less h i j (other-is i j e)); left = omega arith }
+    record { seat = ap (λ (d : Desk). seat i (record { desk = d; area = h .area })) (heard-desk (sectorTest j) (h .desk) j) ∙ sym (none-less h i); left = omega arith }
 other-passes h i begin e = absurd (let z : _≡_ {A = ℕ} 0 1 = cc in omega arith)
 
 -- ---- a round begins

@@ -2,7 +2,7 @@
 use mathlib.Core.Path.{_≡_, refl, sym, ap, ap₂, _∙_, subst}
 use mathlib.Core.Logic.{_↔_}
 use mathlib.Core.List.{List, [], _∷_, _++_, append-assoc, append-nil}
-use Prim.Native.Nat.{ℕ, zero, suc, _+_, _-_, _≤_, _<_, min}
+use Prim.Native.Nat.{ℕ, zero, suc, _+_, _≤_, _<_}
 use native.Mathlib.Omega.{arith}
 use lib.ListN.{length, drop}
 use Rattle.lists.specs.Histories.{afterAll, Place, Point}
@@ -12,17 +12,18 @@ use Rattle.matrix_record.specs.MatrixRecord.{realEntry}
 use Rattle.result_record.specs.ResultRecord.{resultRecord}
 use Rattle.workspace.specs.Workspace.{R, Q}
 use Rattle.engine.specs.Load.{loadBy, loadOf}
-use Rattle.engine.specs.Run.{runRefusal, nextJob, runDone, runBy, runOf}
+use Rattle.engine.specs.Run.{runRefusal, nextJob, runDone}
+use Rattle.engine.proofs.Taken.{all-taken}
 use Rattle.engine.specs.Fetch.{fetchOf}
 use Rattle.accuracy.specs.Factorization.{Factorization}
 use Rattle.accuracy.specs.Demand3.{Load, State, RunCall, FetchCall, ran, refusal, start, EachInStep, Kept}
 use Rattle.accuracy.specs.Demand3 as engine
 use Rattle.accuracy.proofs.Demand3.{demand3}
 use Rattle.accuracy.proofs.Possible.{Stepping}
-use Rattle.desk.specs.Desk.{jobOf}
+use Rattle.desk.specs.Desk.{jobAt}
 use Rattle.desk_laws.specs.Calls.{Lent, its, another, Call, load, run, fetch, heard, begin, Hub, new, lentWords, Answer, answer, next, after, Accepted, Kind, own, other, round, kind, Its, LentIts, OwnLent, EachLentIts}
 use Rattle.desk_laws.specs.Unloaded.{IsLoad, NoLoad, EachNoLoad}
-use Rattle.desk_laws.specs.Sectors.{engineRun, engineFetch, engineCall, engineCalls, reached, ranAnswer, fetchedAnswer, SectorDemand3}
+use Rattle.desk_laws.specs.Sectors.{engineRun, engineFetch, engineCall, engineCalls, stateAfter, ranAnswer, fetchedAnswer, SectorDemand3}
 use Rattle.desk_laws.proofs.Seats.{Seat, seat, Eight, loadSeat, runSeat, loadNumber, runNumber, fetchNumber, seatGrant, ownNext, loadAnswer, runAnswer, fetchAnswer, ownAnswer, run-number-is, own-kind, own-next, own-answer, other-passes, round-next, eight-next, eight-after, eight-new}
 use Rattle.desk_laws.proofs.Refusals.{refusals-change-nothing}
 
@@ -43,17 +44,14 @@ module _ (a : Seat) (s : State) (b : Beside a s) where
   unfolding Along afterAll
   idle = record { in-step = tt; beside = b }
 
-  load-step : (j : ℕ) (rec : List ℕ) (lent : Lent) (n : ℕ) → (loadAnswer n rec (lentWords (a .area) lent) .number ≡ 0 → ⊥) → Step (loadSeat n a rec lent) s []
-  load-step j rec lent zero f = absurd (f refl)
-  load-step j rec lent (suc n) f = idle
+  load-step : (rec : List ℕ) (lent : Lent) (n : ℕ) → (loadAnswer n rec (lentWords (a .area) lent) .number ≡ 0 → ⊥) → Step (loadSeat n a rec lent) s []
+  load-step rec lent zero f = absurd (f refl)
+  load-step rec lent (suc n) f = idle
 
   -- an accepted Run, with the turns granted for its allowance
   ran-is : (request : ℕ) → runNumber a request its ≡ 0 → ran s (engineRun (a .job) (seatGrant a request) its) ≡ runDone (a .job) (seatGrant a request) (a .area)
-  unfolding runOf runBy
   ran-is request e =
-      let k = seatGrant a request in
-      let z : min k (120 - a .job .turn) ≡ k = omega arith in
-      rw (← (b .area), first-none (runRefusal (a .job) (a .area)) _ e .0, z)
+      rw (← (b .area)) (all-taken (a .job) (seatGrant a request) (a .area) (first-none (runRefusal (a .job) (a .area)) _ e .0) (omega arith))
 
   ran-told : (request : ℕ) → runNumber a request its ≡ 0 → runAnswer 0 (a .job) (seatGrant a request) (a .area) ≡ ranAnswer (ran s (engineRun (a .job) (seatGrant a request) its))
   unfolding runDone
@@ -85,7 +83,7 @@ module _ (a : Seat) (s : State) (b : Beside a s) where
 
   own-step : (c : Call) → (IsLoad c → ownAnswer a c .number ≡ 0 → ⊥) → (ownAnswer a c .number ≡ 0 → LentIts c)
       → Step (ownNext a c) s (engineCall own (ownAnswer a c .number) (a .job) c (ownAnswer a c .count))
-  own-step (load j rec lent) f u = load-step j rec lent (loadNumber a rec lent) (f tt)
+  own-step (load j rec lent) f u = load-step rec lent (loadNumber a rec lent) (f tt)
   own-step (run j request lent) f u = run-step j request lent (runNumber a request lent) refl u
   own-step (fetch j buffer lent) f u = fetch-step j (fetchNumber a buffer lent) buffer lent u
   own-step (heard j) f u = idle
@@ -95,12 +93,12 @@ module _ (a : Seat) (s : State) (b : Beside a s) where
 
 module _ (i : ℕ) (small : i < 8) where
   by-kind : (h : Hub) (c : Call) (s : State) (k : Kind) → kind i c ≡ k → Eight (h .desk) → Beside (seat i h) s → (k ≡ own → IsLoad c → Accepted h c → ⊥) → (k ≡ own → Accepted h c → LentIts c)
-      → Step (seat i (next h c)) s (engineCall k (answer h c .number) (jobOf (h .desk) i) c (answer h c .count))
+      → Step (seat i (next h c)) s (engineCall k (answer h c .number) (jobAt (h .desk) i) c (answer h c .count))
   by-kind h c s own e w b f u =
       let r = own-answer h i small w c e in
       let n = ap (λ (x : Answer). x .number) r in
-      subst (λ (a : Seat). Step a s (engineCall own (answer h c .number) (jobOf (h .desk) i) c (answer h c .count))) (sym (own-next h i small w c e))
-      (subst (λ (x : Answer). Step (ownNext (seat i h) c) s (engineCall own (x .number) (jobOf (h .desk) i) c (x .count))) (sym r)
+      subst (λ (a : Seat). Step a s (engineCall own (answer h c .number) (jobAt (h .desk) i) c (answer h c .count))) (sym (own-next h i small w c e))
+      (subst (λ (x : Answer). Step (ownNext (seat i h) c) s (engineCall own (x .number) (jobAt (h .desk) i) c (x .count))) (sym r)
       (own-step (seat i h) s b c (λ t z. f refl t (n ∙ z)) (λ z. u refl (n ∙ z))))
   by-kind h c s other e w b f u =
       subst (λ (a : Seat). Step a s []) (sym (other-passes h i c e .seat)) (idle _ s (record { area = b .area; job = b .job; granted = b .granted }))
@@ -112,7 +110,7 @@ module _ (i : ℕ) (small : i < 8) where
   unfolding Along afterAll engineCalls
   all h s [] w b f u = idle (seat i h) s b
   all h s (c ∷ calls) w b f u =
-      let now = engineCall (kind i c) (answer h c .number) (jobOf (h .desk) i) c (answer h c .count) in
+      let now = engineCall (kind i c) (answer h c .number) (jobAt (h .desk) i) c (answer h c .count) in
       let x = by-kind h c s (kind i c) refl w b (f .0) (u .0) in
       let y = all (next h c) (afterAll engine.after s now) calls (eight-next h c w) (x .beside) (f .1) (u .1) in
       record {
@@ -124,7 +122,7 @@ module _ (i : ℕ) (small : i < 8) where
   unfolding engineCalls afterAll
   engine-append h [] b = refl
   engine-append h (c ∷ a) b =
-      let now = engineCall (kind i c) (answer h c .number) (jobOf (h .desk) i) c (answer h c .count) in
+      let now = engineCall (kind i c) (answer h c .number) (jobAt (h .desk) i) c (answer h c .count) in
       ap (λ (t : List engine.Call). now ++ t) (engine-append (next h c) a b) ∙ sym (append-assoc now (engineCalls i (next h c) a) (engineCalls i (after (next h c) a) b))
 
 -- ---- the sector's calls since a Load
@@ -152,7 +150,7 @@ module _ (i : ℕ) (small : i < 8) (l : Load) (g : Hub) (w : Eight (g .desk)) (b
     eight-here : Eight (after g (p .before) .desk)
     eight-here = eight-after g (p .before) w
 
-    beside-here : Beside (seat i (after g (p .before))) (reached i l g (p .before))
+    beside-here : Beside (seat i (after g (p .before))) (stateAfter i l g (p .before))
     beside-here = at (here p) .beside
 
     told-here : kind i c ≡ own → answer (after g (p .before)) c ≡ ownAnswer (seat i (after g (p .before))) c
@@ -163,7 +161,7 @@ module _ (i : ℕ) (small : i < 8) (l : Load) (g : Hub) (w : Eight (g .desk)) (b
   rest-calls {c} p = engineCalls i (next (after g (p .before)) c) (p .rest)
 
   split : {c : Call} (p : Place c calls) (d : engine.Call)
-      → (let h = after g (p .before) in engineCall (kind i c) (answer h c .number) (jobOf (h .desk) i) c (answer h c .count) ≡ d ∷ [])
+      → (let h = after g (p .before) in engineCall (kind i c) (answer h c .number) (jobAt (h .desk) i) c (answer h c .count) ≡ d ∷ [])
       → engineCalls i g calls ≡ engineCalls i g (p .before) ++ d ∷ rest-calls p
   unfolding engineCalls
   split {c} p d e =
@@ -175,15 +173,15 @@ module _ (i : ℕ) (small : i < 8) (l : Load) (g : Hub) (w : Eight (g .desk)) (b
     run-hub = after g (p .before)
 
     abbrev run-call : RunCall
-    run-call = engineRun (jobOf (run-hub .desk) i) (answer run-hub (run i request its) .count) its
+    run-call = engineRun (jobAt (run-hub .desk) i) (answer run-hub (run i request its) .count) its
 
     run-split : answer run-hub (run i request its) .number ≡ 0 → engineCalls i g calls ≡ engineCalls i g (p .before) ++ engine.run run-call ∷ rest-calls p
     run-split z =
         split p (engine.run run-call)
-        (ap₂ (λ (k : Kind) (n : ℕ). engineCall k n (jobOf (run-hub .desk) i) (run i request its) (answer run-hub (run i request its) .count)) (own-kind i) z)
+        (ap₂ (λ (k : Kind) (n : ℕ). engineCall k n (jobAt (run-hub .desk) i) (run i request its) (answer run-hub (run i request its) .count)) (own-kind i) z)
 
     -- what an accepted Run answers
-    run-told : answer run-hub (run i request its) .number ≡ 0 → answer run-hub (run i request its) ≡ ranAnswer (ran (reached i l g (p .before)) run-call)
+    run-told : answer run-hub (run i request its) .number ≡ 0 → answer run-hub (run i request its) ≡ ranAnswer (ran (stateAfter i l g (p .before)) run-call)
     unfolding runDone
     run-told z =
         let a = seat i run-hub in
@@ -191,8 +189,8 @@ module _ (i : ℕ) (small : i < 8) (l : Load) (g : Hub) (w : Eight (g .desk)) (b
         let q = told-here p (own-kind i) in
         let n : runNumber a request its ≡ 0 = sym (run-number-is (runNumber a request its) (a .job) k (a .area)) ∙ sym (ap (λ (x : Answer). x .number) q) ∙ z in
         let t = q ∙ ap (λ (m : ℕ). runAnswer m (a .job) k (a .area)) n in
-        t ∙ ran-told a (reached i l g (p .before)) (beside-here p) request n
-        ∙ ap (λ (m : ℕ). ranAnswer (ran (reached i l g (p .before)) (engineRun (a .job) m its))) (sym (ap (λ (x : Answer). x .count) t))
+        t ∙ ran-told a (stateAfter i l g (p .before)) (beside-here p) request n
+        ∙ ap (λ (m : ℕ). ranAnswer (ran (stateAfter i l g (p .before)) (engineRun (a .job) m its))) (sym (ap (λ (x : Answer). x .count) t))
 
     run-clamps : answer run-hub (run i request its) .number ≡ 0
         → (answer run-hub (run i request its) .clamps-r ≡ 0) × (answer run-hub (run i request its) .clamps-q ≡ 0)
@@ -217,23 +215,23 @@ module _ (i : ℕ) (small : i < 8) (l : Load) (g : Hub) (w : Eight (g .desk)) (b
     fetch-hub = after g (p .before)
 
     abbrev fetch-call : FetchCall
-    fetch-call = engineFetch (jobOf (fetch-hub .desk) i) buffer its
+    fetch-call = engineFetch (jobAt (fetch-hub .desk) i) buffer its
 
     fetch-split : engineCalls i g calls ≡ engineCalls i g (p .before) ++ engine.fetch fetch-call ∷ rest-calls p
     fetch-split =
         split p (engine.fetch fetch-call)
-        (ap (λ (k : Kind). engineCall k (answer fetch-hub (fetch i buffer its) .number) (jobOf (fetch-hub .desk) i) (fetch i buffer its) (answer fetch-hub (fetch i buffer its) .count)) (own-kind i))
+        (ap (λ (k : Kind). engineCall k (answer fetch-hub (fetch i buffer its) .number) (jobAt (fetch-hub .desk) i) (fetch i buffer its) (answer fetch-hub (fetch i buffer its) .count)) (own-kind i))
 
     abbrev fetch-place : Place (engine.fetch fetch-call) (engineCalls i g calls)
     fetch-place = record { before = engineCalls i g (p .before); rest = rest-calls p; is = fetch-split }
 
-    fetch-told : answer fetch-hub (fetch i buffer its) ≡ fetchedAnswer (reached i l g (p .before)) fetch-call
-    fetch-told = told-here p (own-kind i) ∙ fetched-told (seat i fetch-hub) (reached i l g (p .before)) (beside-here p) buffer
+    fetch-told : answer fetch-hub (fetch i buffer its) ≡ fetchedAnswer (stateAfter i l g (p .before)) fetch-call
+    fetch-told = told-here p (own-kind i) ∙ fetched-told (seat i fetch-hub) (stateAfter i l g (p .before)) (beside-here p) buffer
 
-    number-told : answer fetch-hub (fetch i buffer its) .number ≡ refusal (reached i l g (p .before)) (engine.fetch fetch-call)
+    number-told : answer fetch-hub (fetch i buffer its) .number ≡ refusal (stateAfter i l g (p .before)) (engine.fetch fetch-call)
     number-told = ap (λ (x : Answer). x .number) fetch-told
 
-    fetch-iff : Accepted fetch-hub (fetch i buffer its) ↔ ((120 ≤ jobOf (fetch-hub .desk) i .turn) × (2049 ≤ length buffer))
+    fetch-iff : Accepted fetch-hub (fetch i buffer its) ↔ ((120 ≤ jobAt (fetch-hub .desk) i .turn) × (2049 ≤ length buffer))
     fetch-iff =
         let k = kept .fetch-accepted fetch-call fetch-place (refl, beside-here p .job) in
         let t = beside-here p .granted in
@@ -245,7 +243,7 @@ module _ (i : ℕ) (small : i < 8) (l : Load) (g : Hub) (w : Eight (g .desk)) (b
 
   -- once all turns are granted
   factored-at : (p : Point calls)
-      → (let h = after g (p .before) in 120 ≤ jobOf (h .desk) i .turn → Factorization (realEntry (l .bytes)) (R (h .area i)) (Q (h .area i)))
+      → (let h = after g (p .before) in 120 ≤ jobAt (h .desk) i .turn → Factorization (realEntry (l .bytes)) (R (h .area i)) (Q (h .area i)))
   factored-at p z =
       let b = at p .beside in
       let t = b .granted in

@@ -1,16 +1,14 @@
 -- The premises of the laws can be met. Assumes nothing.
 use mathlib.Core.Path.{_≡_, refl, sym, ap, _∙_, subst}
-use mathlib.Core.Bool.{Bool, true, false, _&&_}
 use mathlib.Core.List.{List, [], _∷_, _++_, append-assoc}
-use Prim.Native.Nat.{ℕ, zero, suc, _+_, _-_, _≤_, _<_}
+use Prim.Native.Nat.{ℕ, zero, suc, _+_, _≤_, _<_}
 use native.Mathlib.Omega.{arith}
 use borrow.Author.Tests.{ne-eqb}
-use lib.Dec.{ltb}
 use lib.IntN.{ℤ}
 use lib.ListN.{length}
 use Rattle.lists.specs.Histories.{afterAll, Place}
 use Rattle.lists.proofs.Histories.{after-append, Along, along-of, along-append, each-of}
-use Rattle.refusals.specs.Refusals.{failsIf, headerTest}
+use Rattle.refusals.specs.Refusals.{headerTest}
 use Rattle.engine.specs.declared.job.Job.{Job}
 use Rattle.engine.specs.Job.{loadedJob}
 use Rattle.engine.specs.Load.{loadRefusal, loadBy}
@@ -18,8 +16,8 @@ use Rattle.engine.specs.Run.{nextJob, runDone}
 use Rattle.engine.proofs.Accepted.{run-passes}
 use Rattle.accuracy.specs.Demand3.{Load}
 use Rattle.accuracy.proofs.Demand3.{room}
-use Rattle.desk.specs.Desk.{jobOf}
-use Rattle.desk.specs.Run.{roundTest}
+use Rattle.desk.specs.Desk.{jobAt}
+use Rattle.desk.proofs.Accepted.{left-passes}
 use Rattle.desk_laws.specs.Calls.{Lent, its, Call, load, run, fetch, begin, Hub, new, Answer, answer, next, after, Accepted, Kind, own, other, round, kind, OwnLent, EachLentIts}
 use Rattle.desk_laws.specs.Others.{view}
 use Rattle.desk_laws.specs.Unloaded.{NoLoad, EachNoLoad}
@@ -57,15 +55,6 @@ waits-on i h [] f w = w
 waits-on i h (c ∷ calls) f w = waits-on i (next h c) calls (f .1) (by-kind i h c (kind i c) refl (f .0) w)
 
 -- at the start of a round it is granted what it requests, up to 120 turns
-not-spent : (job : Job) (request : ℕ) → roundTest job 120 request ≡ 0
-unfolding roundTest
-not-spent job request = pick (ltb 0 request) (ltb (job .turn) 120)
-  where
-    pick : (a b : Bool) → failsIf (a && (b && false)) 13 ≡ 0
-    pick true true = refl
-    pick true false = refl
-    pick false b = refl
-
 module _ (a : Seat) (w : Waits a) (e : a .left ≡ 120) (request : ℕ) (fits : request ≤ 120) where
   none-left : a .job .turn ≡ 0
   none-left = ap (λ (j : Job). j .turn) (w .job)
@@ -76,7 +65,7 @@ module _ (a : Seat) (w : Waits a) (e : a .left ≡ 120) (request : ℕ) (fits : 
       let t : a .job .turn ≤ 120 = omega (arith, none-left) in
       let m : a .job .made ≤ a .job .turn = rw job (omega arith) in
       let r = run-passes (a .job) (a .area) (record { room = w .room; possible = record { turn = t; made = m } }) in
-      rw (r, e, not-spent (a .job) request)
+      rw (r, left-passes (a .job) (a .left) request (omega (arith, e)))
 
   granted-whole : seatGrant a request ≡ request
   granted-whole = omega (arith, none-left, e, fits)
@@ -131,7 +120,7 @@ module _ (i : ℕ) (small : i < 8) (areas : ℕ → List ℤ) (l : Load) (betwee
   lent-later = each-of next (OwnLent i) start-hub (serving i between buffer) lent-along
 
   -- the last call but one leaves it finished
-  finished : jobOf (after start-hub (between ++ last-run) .desk) i .turn ≡ 120
+  finished : jobAt (after start-hub (between ++ last-run) .desk) i .turn ≡ 120
   unfolding afterAll
   finished =
       let w = eight-new areas in
@@ -141,7 +130,7 @@ module _ (i : ℕ) (small : i < 8) (areas : ℕ → List ℤ) (l : Load) (betwee
       let b = next k begin in
       let s = subst Waits (sym (own-next (new areas) i small w loading (own-kind i))) (loaded-waits (seat i (new areas)) l same) in
       let t = by-kind i k begin round refl (λ q. absurd (let z : _≡_ {A = ℕ} 0 1 = cc in omega arith)) (waits-on i start-hub between (never-own start-hub) s) in
-      ap (λ (h : Hub). jobOf (h .desk) i .turn) (after-append next start-hub between last-run)
+      ap (λ (h : Hub). jobAt (h .desk) i .turn) (after-append next start-hub between last-run)
       ∙ ap (λ (a : Seat). a .job .turn) (own-next b i small (eight-next k begin y) (run i 120 its) (own-kind i))
       ∙ turned (seat i b) t (ap (λ (a : Seat). a .left) (round-next k i begin refl)) 120 (omega arith) i
 

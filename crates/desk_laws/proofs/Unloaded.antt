@@ -1,23 +1,22 @@
--- A sector never loaded has the job (120, 0) and heard byte 0, and so its calls do. Assumes nothing.
+-- A sector never loaded has the job (120, 0) and heard byte 0, and what its calls answer follows from that. Assumes nothing.
 use mathlib.Core.Path.{_≡_, refl, sym, ap, _∙_, subst}
-use mathlib.Core.Bool.{Bool, true, false, _&&_}
 use mathlib.Core.List.{List, [], append-nil}
-use Prim.Native.Nat.{ℕ, zero, suc, _+_, _-_, _<_}
+use Prim.Native.Nat.{ℕ, zero, suc, _<_}
 use native.Mathlib.Omega.{arith}
-use lib.Dec.{ltb}
 use lib.IntN.{ℤ}
 use lib.ListN.{getD-replicate}
 use Rattle.lists.proofs.Histories.{kept-at}
-use Rattle.refusals.specs.Refusals.{first, failsIf, bufferTest}
+use Rattle.refusals.proofs.Refusals.{first-alone}
+use Rattle.refusals.specs.Refusals.{first, bufferTest}
 use Rattle.result_record.specs.ResultRecord.{resultTest}
 use Rattle.workspace.specs.Workspace.{workspaceTest, R}
-use Rattle.workspace.specs.Rotations.{wordsAfter, turnsMade, saturationsCounted}
 use Rattle.engine.specs.declared.job.Job.{Job}
 use Rattle.engine.specs.Job.{jobTest}
-use Rattle.engine.specs.Run.{RunOutcome, runRefusal, nextJob, runDone}
+use Rattle.engine.specs.Run.{RunOutcome, runRefusal, runDone}
 use Rattle.engine.specs.Fetch.{fetchRefusal}
+use Rattle.engine.proofs.Taken.{none-taken}
+use Rattle.desk.proofs.Accepted.{finished-passes}
 use Rattle.desk.specs.Desk.{unloadedJob}
-use Rattle.desk.specs.Run.{roundTest}
 use Rattle.desk_laws.specs.Calls.{Lent, Call, load, run, fetch, heard, begin, Hub, new, lentWords, Answer, answer, next, after, Accepted, Kind, own, other, round, kind}
 use Rattle.desk_laws.specs.Unloaded.{IsLoad, NoLoad, EachNoLoad, ranNothing, NeverLoaded}
 use Rattle.desk_laws.specs.Sectors.{ranAnswer}
@@ -31,17 +30,6 @@ record Empty (a : Seat) : Type 0 where
 no-grant : (a : Seat) (request : ℕ) → a .job ≡ unloadedJob → seatGrant a request ≡ 0
 no-grant a request e = let z : a .job .turn ≡ 120 = ap (λ (j : Job). j .turn) e in omega (arith, z)
 
--- no turn changes no job and no word
-abbrev idle : Job → List ℤ → RunOutcome
-idle job l = record { reply = record { number = 0; job = job; count = 0; «clamps_r» = 0; «clamps_q» = 0 }; workspace = l }
-
-none-done : (job : Job) (l : List ℤ) → runDone job 0 l ≡ idle job l
-unfolding runDone nextJob wordsAfter turnsMade saturationsCounted
-none-done job l =
-    let x : job .turn + 0 ≡ job .turn = omega arith in
-    let y : job .made + 0 ≡ job .made = omega arith in
-    rw (x, y)
-
 -- ---- its calls keep it so
 
 load-empty : (a : Seat) (rec : List ℕ) (lent : Lent) (n : ℕ) → (loadAnswer n rec (lentWords (a .area) lent) .number ≡ 0 → ⊥) → Empty a → Empty (loadSeat n a rec lent)
@@ -52,7 +40,7 @@ run-empty : (a : Seat) (request : ℕ) (lent : Lent) (n : ℕ) → Empty a → E
 run-empty a request lent zero e =
     let l = lentWords (a .area) lent in
     record {
-      job = ap (λ (k : ℕ). runDone (a .job) k l .reply .job) (no-grant a request (e .job)) ∙ ap (λ (o : RunOutcome). o .reply .job) (none-done (a .job) l) ∙ e .job;
+      job = ap (λ (k : ℕ). runDone (a .job) k l .reply .job) (no-grant a request (e .job)) ∙ ap (λ (o : RunOutcome). o .reply .job) (none-taken (a .job) l) ∙ e .job;
       heard = e .heard;
     }
 run-empty a request lent (suc n) e = e
@@ -85,24 +73,12 @@ module _ (i : ℕ) (small : i < 8) where
 
 -- ---- what its calls answer
 
-first-alone : (n : ℕ) → first n 0 ≡ n
-first-alone zero = refl
-first-alone (suc n) = refl
-
-never-spent : (left request : ℕ) → roundTest unloadedJob left request ≡ 0
-unfolding roundTest
-never-spent left request = pick (ltb 0 request)
-  where
-    pick : (b : Bool) → failsIf (b && false) 13 ≡ 0
-    pick true = refl
-    pick false = refl
-
 module _ (a : Seat) (e : Empty a) where
   run-refused : (request : ℕ) (lent : Lent) → runNumber a request lent ≡ workspaceTest (lentWords (a .area) lent)
   unfolding runRefusal jobTest
   run-refused request lent =
       let n = workspaceTest (lentWords (a .area) lent) in
-      rw (e .job, never-spent (a .left) request, first-alone (first n 0), first-alone n)
+      rw (e .job, finished-passes unloadedJob (a .left) request (omega arith), first-alone (first n 0), first-alone n)
 
   fetch-refused : (buffer : List ℕ) (lent : Lent) → (let l = lentWords (a .area) lent in fetchNumber a buffer lent ≡ first (workspaceTest l) (first (bufferTest 2049 buffer) (resultTest (R l))))
   unfolding fetchRefusal jobTest
@@ -111,7 +87,7 @@ module _ (a : Seat) (e : Empty a) where
   ran-nothing : (request n : ℕ) (l : List ℤ) → runAnswer n (a .job) (seatGrant a request) l ≡ ranNothing n l
   unfolding runDone
   ran-nothing request zero l =
-      ap (λ (k : ℕ). ranAnswer (runDone (a .job) k l)) (no-grant a request (e .job)) ∙ ap ranAnswer (none-done (a .job) l) ∙ ap (λ (j : Job). ranAnswer (idle j l)) (e .job)
+      ap (λ (k : ℕ). ranAnswer (runDone (a .job) k l)) (no-grant a request (e .job)) ∙ ap ranAnswer (none-taken (a .job) l) ∙ ap (λ (j : Job). record { number = 0; heard = 0; job = j; count = 0; clamps-r = 0; clamps-q = 0; buffer = []; words = l }) (e .job)
   ran-nothing request (suc n) l = refl
 
 pub never-loaded : NeverLoaded

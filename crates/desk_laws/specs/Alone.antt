@@ -7,7 +7,7 @@ use Rattle.lists.specs.Histories.{afterAll}
 use Rattle.engine.specs.declared.job.Job.{Job}
 use Rattle.engine.specs.Load.{loadOf}
 use Rattle.engine.specs.Run.{runOf}
-use Rattle.desk.specs.Desk.{sectorCount, jobOf, heardOf}
+use Rattle.desk.specs.Desk.{sectorCount, jobAt, heardAt}
 use Rattle.desk_laws.specs.Calls.{Call, load, run, fetch, heard, begin, Hub, new, answer, next, after, Kind, own, other, round, kind, EachLentIts}
 
 -- ---- one area alone, by the engine's own calls
@@ -59,7 +59,7 @@ works i h (c ∷ calls) = worksOf (kind i c) (answer h c .number) c (answer h c 
 -- ---- the law
 
 abbrev pub standing : ℕ → Hub → Alone
-standing i h = record { job = jobOf (h .desk) i; heard = heardOf (h .desk) i; area = h .area i }
+standing i h = record { job = jobAt (h .desk) i; heard = heardAt (h .desk) i; area = h .area i }
 
 abbrev pub AsAlone : Type 0
 AsAlone = (i : ℕ) (areas : ℕ → List ℤ) (calls : List Call) → i < sectorCount → EachLentIts i (new areas) calls

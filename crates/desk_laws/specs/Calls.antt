@@ -138,7 +138,7 @@ LentIts (fetch i buffer lent) = Its lent
 LentIts (heard i) = Unit {0}
 LentIts begin = Unit {0}
 
--- the premise of the laws: each accepted call of the sector is lent its area
+-- the premise of `AsAlone` and `SectorDemand3`: each accepted call of the sector is lent its area
 abbrev pub OwnLent : ℕ → Hub → Call → Type 0
 OwnLent i h c = kind i c ≡ own → Accepted h c → LentIts c
 

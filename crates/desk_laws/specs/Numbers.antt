@@ -1,13 +1,16 @@
 -- Document 02, U7: 12 ahead of all other numbers, 13 after 5, and what stands beside them, as one table with one statement over all its rows, computed from
--- the definitions that the contracts cite. On each of these desks every sector has the same job, also one that no call leaves there. Where it can, a refused row
--- fails the tests that follow as well. Assumes nothing.
+-- the definitions that the contracts cite. On each of these desks every sector has the same job, in some rows one that no call answers, such as (5, 6). Where it can, a
+-- refused row fails the tests that follow as well. Assumes nothing.
 use mathlib.Core.Path.{_≡_, refl}
 use mathlib.Core.List.{List, [], _∷_}
 use Prim.Native.Nat.{ℕ}
 use lib.IntN.{pos}
 use lib.ListN.{replicate}
 use Rattle.refusals.specs.Refusals.{headerTest}
+use Rattle.lists.specs.Lists.{allBelow}
 use Rattle.matrix_record.specs.MatrixRecord.{partOf, antennaHeard, heardBelow}
+use Rattle.result_record.specs.ResultRecord.{isFinishedAt, isFinished}
+use Rattle.workspace.specs.Workspace.{wordIn, R}
 use Rattle.engine.specs.declared.job.Job.{Job}
 use Rattle.engine.specs.Job.{jobTest}
 use Rattle.engine.specs.Load.{loadRefusal}
@@ -26,8 +29,8 @@ pub data Example : Type 0 where
   loading : ℕ → List ℕ → ℕ → ℕ → Example
   -- job, what the round has left, sector, request and words of the area
   running : Job → ℕ → ℕ → ℕ → ℕ → ℕ → Example
-  -- job, sector, words of the area and bytes of the buffer
-  fetching : Job → ℕ → ℕ → ℕ → ℕ → Example
+  -- job, sector, words of the area, what each of them is, and bytes of the buffer
+  fetching : Job → ℕ → ℕ → ℕ → ℕ → ℕ → Example
   -- sector
   hearing : ℕ → ℕ → Example
 
@@ -41,7 +44,7 @@ deskWith job left = record { jobs = replicate sectorCount job; heard = replicate
 abbrev pub Answers : Example → Type 0
 Answers (loading sector rec words n) = deskLoadOf (deskWith (job 0 0) 0) sector rec (replicate words (pos 0)) .reply .number ≡ n
 Answers (running job left sector request words n) = deskRunOf (deskWith job left) sector request (replicate words (pos 0)) .reply .number ≡ n
-Answers (fetching job sector words bytes n) = deskFetchOf (deskWith job 0) sector (replicate words (pos 0)) (replicate bytes 0) .reply .number ≡ n
+Answers (fetching job sector words word bytes n) = deskFetchOf (deskWith job 0) sector (replicate words (pos word)) (replicate bytes 0) .reply .number ≡ n
 Answers (hearing sector n) = deskHeardOf (deskWith (job 0 0) 0) sector .number ≡ n
 
 abbrev pub AllAnswer : List Example → Type 0
@@ -58,6 +61,7 @@ examples =
     ∷ loading 7 (1 ∷ []) 511 2
     ∷ loading 7 (1 ∷ replicate 256 0) 511 3
     ∷ loading 7 (1 ∷ replicate 256 0) 512 4
+    ∷ loading 7 (1 ∷ 0 ∷ 17 ∷ replicate 254 0) 512 0
     -- ---- Run: 12, 3, 5, 13
     ∷ running (job 5 6) 0 8 1 511 12
     ∷ running (job 5 6) 0 7 1 511 3
@@ -70,12 +74,14 @@ examples =
     ∷ running (job 5 5) 0 7 0 512 0
     ∷ running (job 120 0) 0 7 1 512 0
     ∷ running (job 5 5) 1 7 1 512 0
-    -- ---- Fetch: 12, 3, 5, 6, 7
-    ∷ fetching (job 121 0) 8 511 2048 12
-    ∷ fetching (job 121 0) 7 511 2048 3
-    ∷ fetching (job 121 0) 7 512 2048 5
-    ∷ fetching (job 119 0) 7 512 2048 6
-    ∷ fetching (job 120 0) 7 512 2048 7
+    -- ---- Fetch: 12, 3, 5, 6, 7, 8
+    ∷ fetching (job 121 0) 8 511 1 2048 12
+    ∷ fetching (job 121 0) 7 511 1 2048 3
+    ∷ fetching (job 121 0) 7 512 1 2048 5
+    ∷ fetching (job 119 0) 7 512 1 2048 6
+    ∷ fetching (job 120 0) 7 512 1 2048 7
+    ∷ fetching (job 120 0) 7 512 1 2049 8
+    ∷ fetching (job 120 0) 7 512 0 2049 0
     -- ---- the heard byte
     ∷ hearing 8 12
     ∷ hearing 4294967295 12
@@ -83,6 +89,6 @@ examples =
     ∷ []
 
 pub desk-numbered : AllAnswer examples
-unfolding examples jobTest loadRefusal runRefusal fetchRefusal headerTest deskLoadOf deskLoadBy deskLoadRefusal deskRunOf deskRunBy deskRunDone deskRunRefusal roundTest deskFetchOf deskFetchBy deskFetchRefusal deskHeardOf deskHeardBy heardBelow antennaHeard partOf
+unfolding examples jobTest loadRefusal runRefusal fetchRefusal headerTest deskLoadOf deskLoadBy deskLoadRefusal deskRunOf deskRunBy deskRunDone deskRunRefusal roundTest deskFetchOf deskFetchBy deskFetchRefusal deskHeardOf deskHeardBy heardBelow antennaHeard partOf allBelow isFinished isFinishedAt R wordIn
 desk-numbered =
-    (refl, (refl, (refl, (refl, (refl, (refl, (refl, (refl, (refl, (refl, (refl, (refl, (refl, (refl, (refl, (refl, (refl, (refl, (refl, (refl, (refl, (refl, (refl, (refl, tt))))))))))))))))))))))))
+    (refl, (refl, (refl, (refl, (refl, (refl, (refl, (refl, (refl, (refl, (refl, (refl, (refl, (refl, (refl, (refl, (refl, (refl, (refl, (refl, (refl, (refl, (refl, (refl, (refl, (refl, (refl, tt)))))))))))))))))))))))))))

@@ -16,7 +16,7 @@ use Rattle.engine.specs.Run.{RunOutcome}
 use Rattle.accuracy.specs.Factorization.{Factorization}
 use Rattle.accuracy.specs.Demand3.{Load, State, RunCall, FetchCall, ran, refusal, fetched, start, EachInStep, Kept}
 use Rattle.accuracy.specs.Demand3 as engine
-use Rattle.desk.specs.Desk.{sectorCount, jobOf}
+use Rattle.desk.specs.Desk.{sectorCount, jobAt}
 use Rattle.desk_laws.specs.Calls.{Lent, its, another, Call, load, run, fetch, heard, begin, Hub, new, Answer, bare, answer, next, after, Accepted, Kind, own, other, round, kind, EachLentIts}
 use Rattle.desk_laws.specs.Unloaded.{EachNoLoad}
 
@@ -47,19 +47,19 @@ engineCall round number job c count = []
 
 unfoldable pub engineCalls : ℕ → Hub → List Call → List engine.Call
 engineCalls i h [] = []
-engineCalls i h (c ∷ calls) = engineCall (kind i c) (answer h c .number) (jobOf (h .desk) i) c (answer h c .count) ++ engineCalls i (next h c) calls
+engineCalls i h (c ∷ calls) = engineCall (kind i c) (answer h c .number) (jobAt (h .desk) i) c (answer h c .count) ++ engineCalls i (next h c) calls
 
 -- what stands after the desk's calls, by demand 3's own account of the engine's
-abbrev pub reached : ℕ → Load → Hub → List Call → State
-reached i l g calls = afterAll engine.after (start l) (engineCalls i g calls)
+abbrev pub stateAfter : ℕ → Load → Hub → List Call → State
+stateAfter i l g calls = afterAll engine.after (start l) (engineCalls i g calls)
 
 -- ---- what is promised of the sector's calls after a Load
 
 -- the sector's area and job are those of that account, and the turns granted since the Load are the turn number
 pub record Follows (i : ℕ) (h : Hub) (s : State) : Type 0 where
   pub area : h .area i ≡ s .workspace
-  pub job : jobOf (h .desk) i ≡ s .job
-  pub granted : jobOf (h .desk) i .turn ≡ s .granted
+  pub job : jobAt (h .desk) i ≡ s .job
+  pub granted : jobAt (h .desk) i .turn ≡ s .granted
 
 -- a Run and a Fetch of the engine as an answer of the desk
 abbrev pub ranAnswer : RunOutcome → Answer
@@ -75,21 +75,21 @@ pub record SectorKept (i : ℕ) (l : Load) (g : Hub) (calls : List Call) : Type 
   pub in-step : EachInStep l (engineCalls i g calls)
   pub kept : Kept l (engineCalls i g calls)
   -- which is one about the sector's area and job
-  pub follows : (p : Point calls) → Follows i (after g (p .before)) (reached i l g (p .before))
+  pub follows : (p : Point calls) → Follows i (after g (p .before)) (stateAfter i l g (p .before))
   -- about what its accepted Runs answer
   pub runs : (request : ℕ) (p : Place (run i request its) calls)
       → (let h = after g (p .before) in
       let a = answer h (run i request its) in
-      a .number ≡ 0 → a ≡ ranAnswer (ran (reached i l g (p .before)) (engineRun (jobOf (h .desk) i) (a .count) its)))
+      a .number ≡ 0 → a ≡ ranAnswer (ran (stateAfter i l g (p .before)) (engineRun (jobAt (h .desk) i) (a .count) its)))
   -- and about what its Fetches answer, refused ones too
   pub fetches : (buffer : List ℕ) (p : Place (fetch i buffer its) calls)
-      → (let h = after g (p .before) in answer h (fetch i buffer its) ≡ fetchedAnswer (reached i l g (p .before)) (engineFetch (jobOf (h .desk) i) buffer its))
+      → (let h = after g (p .before) in answer h (fetch i buffer its) ≡ fetchedAnswer (stateAfter i l g (p .before)) (engineFetch (jobAt (h .desk) i) buffer its))
   -- so no Run, a refused one too, clamps a word
   pub no-clamps : (request : ℕ) (lent : Lent) (p : Place (run i request lent) calls)
       → (let a = answer (after g (p .before)) (run i request lent) in (a .clamps-r ≡ 0) × (a .clamps-q ≡ 0))
   -- a Fetch is accepted exactly when all 120 turns were granted and its buffer has 2,049 bytes or more
   pub fetch-accepted : (buffer : List ℕ) (p : Place (fetch i buffer its) calls)
-      → (let h = after g (p .before) in Accepted h (fetch i buffer its) ↔ ((rotationCount ≤ jobOf (h .desk) i .turn) × (resultBytes ≤ length buffer)))
+      → (let h = after g (p .before) in Accepted h (fetch i buffer its) ↔ ((rotationCount ≤ jobAt (h .desk) i .turn) × (resultBytes ≤ length buffer)))
   -- and then writes the record of the area's R and Q
   pub written : (buffer : List ℕ) (p : Place (fetch i buffer its) calls)
       → (let h = after g (p .before) in
@@ -97,7 +97,7 @@ pub record SectorKept (i : ℕ) (l : Load) (g : Hub) (calls : List Call) : Type 
   -- which are a factorization of the matrix that the sector was loaded with, from the moment on when all 120 turns were granted
   pub factored : (p : Point calls)
       → (let h = after g (p .before) in
-      rotationCount ≤ jobOf (h .desk) i .turn → Factorization (realEntry (l .bytes)) (R (h .area i)) (Q (h .area i)))
+      rotationCount ≤ jobAt (h .desk) i .turn → Factorization (realEntry (l .bytes)) (R (h .area i)) (Q (h .area i)))
 
 -- for a Load that the engine accepts with the sector's area as it stands, after any calls, and the calls after it among which the sector is not loaded again
 abbrev pub SectorDemand3 : Type 0

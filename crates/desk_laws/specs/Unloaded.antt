@@ -9,7 +9,7 @@ use Rattle.refusals.specs.Refusals.{first, bufferTest}
 use Rattle.result_record.specs.ResultRecord.{resultBytes, resultTest}
 use Rattle.workspace.specs.Workspace.{workspaceTest, R}
 use Rattle.engine.specs.Fetch.{fetchBy}
-use Rattle.desk.specs.Desk.{sectorCount, unloadedJob, jobOf, heardOf}
+use Rattle.desk.specs.Desk.{sectorCount, unloadedJob, jobAt, heardAt}
 use Rattle.desk_laws.specs.Calls.{Lent, Call, load, run, fetch, heard, begin, Hub, new, lentWords, Answer, bare, answer, next, after, Accepted, own, kind}
 
 abbrev pub IsLoad : Call → Type 0
@@ -32,8 +32,8 @@ ranNothing zero l = record { number = 0; heard = 0; job = unloadedJob; count = 0
 ranNothing (suc n) l = bare (suc n) [] l
 
 pub record Unloaded (i : ℕ) (h : Hub) : Type 0 where
-  pub job : jobOf (h .desk) i ≡ unloadedJob
-  pub heard : heardOf (h .desk) i ≡ 0
+  pub job : jobAt (h .desk) i ≡ unloadedJob
+  pub heard : heardAt (h .desk) i ≡ 0
   -- its Run is refused by 3 alone, whatever the request and whatever the round has left, and makes nothing
   pub run : (request : ℕ) (lent : Lent) → (let l = lentWords (h .area i) lent in answer h (run i request lent) ≡ ranNothing (workspaceTest l) l)
   -- its Fetch is refused by 3, 7 or 8 alone, and else writes the record of what the area holds

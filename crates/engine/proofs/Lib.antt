@@ -1,2 +1,3 @@
 -- Laws of the calls that several proofs cite.
 pub mod Accepted
+pub mod Taken

@@ -14,6 +14,11 @@ pub first-is : (n rest : ℕ) → (n ≡ 0 → ⊥) → n ≡ first n rest
 first-is zero rest f = absurd (f refl)
 first-is (suc n) rest f = refl
 
+-- a test that is passed adds nothing
+pub first-alone : (n : ℕ) → first n 0 ≡ n
+first-alone zero = refl
+first-alone (suc n) = refl
+
 -- where the first is 0, both are
 pub first-none : (n rest : ℕ) → first n rest ≡ 0 → (n ≡ 0) × (rest ≡ 0)
 first-none zero rest h = (refl, h)

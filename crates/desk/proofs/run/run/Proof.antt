@@ -10,7 +10,7 @@ use Rattle.engine.specs.declared.job.Job.{Job}
 use Rattle.engine.specs.declared.run.RunReply.{RunReply}
 use Rattle.engine.specs.Run.{RunOutcome, runRefusal, runDone, runBy, runOf}
 use Rattle.desk.specs.declared.Desk.{Desk}
-use Rattle.desk.specs.Desk.{sectorTest, jobOf, paid}
+use Rattle.desk.specs.Desk.{sectorTest, jobAt, paid}
 use Rattle.desk.specs.Run.{DeskRunOutcome, deskRunRefusal, grant, deskRunDone, deskRunBy, deskRunOf}
 use Rattle.desk.proofs.Accepted.{sector-passed}
 use Rattle.desk.proofs.run.run.Statement.{statement}
@@ -36,15 +36,15 @@ returns c = rw (← c .before .run-refusal .ensures) (refused _ _ _ _ _ (c .if1 
 none : (c : tie.Else1) → let a = c .before .before .before .args in deskRunRefusal (a .desk) (a .sector) (a .request) (a .area .now) ≡ 0
 none c = sym (c .before .run-refusal .ensures) ∙ c .if1 .left
 
-record Passed (desk : Desk) (sector : ℕ) (area : List ℤ) : Type 0 where
+record Tested (desk : Desk) (sector : ℕ) (area : List ℤ) : Type 0 where
   there : sectorTest sector ≡ 0
-  engine : runRefusal (jobOf desk sector) area ≡ 0
+  engine : runRefusal (jobAt desk sector) area ≡ 0
 
-passed : (desk : Desk) (sector request : ℕ) (area : List ℤ) → deskRunRefusal desk sector request area ≡ 0 → Passed desk sector area
+passed : (desk : Desk) (sector request : ℕ) (area : List ℤ) → deskRunRefusal desk sector request area ≡ 0 → Tested desk sector area
 unfolding deskRunRefusal
 passed desk sector request area h =
     let a = first-none (sectorTest sector) _ h in
-    record { there = a .0; engine = first-none (runRefusal (jobOf desk sector) area) _ (a .1) .0 }
+    record { there = a .0; engine = first-none (runRefusal (jobAt desk sector) area) _ (a .1) .0 }
 
 smaller-requires : tie.Need-smaller-requires
 smaller-requires c κs = search needs
@@ -68,7 +68,7 @@ counted job count area after r o = ap (λ (x : RunOutcome). x .reply .count) o
 
 ran : (c : tie.After-run) → let m = c .before .before .before in
     let a = m .before .before .before .before .args in
-    let job = jobOf (a .desk) (a .sector) in
+    let job = jobAt (a .desk) (a .sector) in
     _≡_ {A = RunOutcome} (record { reply = c .run .result; workspace = c .run .last .1 .1 .0 }) (runDone job (min (m .smaller .result) (120 - job .turn)) (a .area .now))
 ran c =
     let j = c .before .before in
@@ -88,7 +88,7 @@ paid-requires c κs =
 same-length-2 : tie.Need-same-length-2
 same-length-2 c = search needs
 
-done-is : (desk d : Desk) (sector request budget : ℕ) (area after : List ℤ) (r : RunReply) → (let job = jobOf desk sector in
+done-is : (desk d : Desk) (sector request budget : ℕ) (area after : List ℤ) (r : RunReply) → (let job = jobAt desk sector in
     budget ≡ min request (desk .left) → _≡_ {A = RunOutcome} (record { reply = r; workspace = after }) (runDone job (min budget (120 - job .turn)) area)
     → d ≡ paid desk sector (r .job) (r .count)
     → _≡_ {A = DeskRunOutcome}
@@ -96,8 +96,8 @@ done-is : (desk d : Desk) (sector request budget : ℕ) (area after : List ℤ) 
     (deskRunDone desk sector (grant job (desk .left) request) area))
 unfolding deskRunDone runDone
 done-is desk d sector request budget area after r b o p =
-    let count = grant (jobOf desk sector) (desk .left) request in
-    let q : _≡_ {A = RunOutcome} (record { reply = r; workspace = after }) (runDone (jobOf desk sector) count area) = rw (← b) o in
+    let count = grant (jobAt desk sector) (desk .left) request in
+    let q : _≡_ {A = RunOutcome} (record { reply = r; workspace = after }) (runDone (jobAt desk sector) count area) = rw (← b) o in
     rw (p, ap (λ (x : RunOutcome). x .reply .job) q, ap (λ (x : RunOutcome). x .reply .count) q, ap (λ (x : RunOutcome). x .reply .«clamps_r») q, ap (λ (x : RunOutcome). x .reply .«clamps_q») q, ap (λ (x : RunOutcome). x .workspace) q)
 
 returns-2 : tie.Need-returns-2

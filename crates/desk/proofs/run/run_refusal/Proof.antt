@@ -1,4 +1,4 @@
--- `run_refusal` meets its contract: the tests passed so far, and the one that first-is. Assumes nothing.
+-- `run_refusal` meets its contract: the tests passed so far, and the one that decides. Assumes nothing.
 use mathlib.Core.Path.{_≡_, sym, _∙_}
 use borrow.Author.Needs.{needs}
 use Rattle.refusals.proofs.Refusals.{first-is}
