@@ -1,12 +1,10 @@
 //! An earlier archive of the engine, whose calls `build.rs` gave other names.
 
 use hubqr::ffi::{AddReply, LoadReply, RunReply, Snapshot, Sums, WeightsReply, WholeReply};
-use hubqr::ffi::{DeskReply, DeskRunReply};
-use hubqr::{Desk, Job};
+use hubqr::Job;
 
 use crate::contenders::{Area, Buffer, Clamps, Contender, Record, FINISHED};
 use crate::covariance::implementations::ByValue;
-use crate::desk::contenders::{begun, ran, Contender as DeskContender};
 use crate::weights::contenders::Contender as WeightsContender;
 
 extern "C" {
@@ -40,14 +38,6 @@ extern "C" {
         record_len: usize,
         targets: Snapshot,
     ) -> WeightsReply;
-    fn earlier_hubqr_desk_begin(desk: Desk) -> DeskReply;
-    fn earlier_hubqr_desk_run(
-        desk: Desk,
-        sector: u32,
-        request: u16,
-        area: *mut i32,
-        area_len: usize,
-    ) -> DeskRunReply;
 }
 
 pub const CONTENDER: Contender = Contender {
@@ -67,17 +57,6 @@ pub const WEIGHTS: WeightsContender = WeightsContender {
     name: "engine, earlier",
     weights: |record, targets| unsafe {
         earlier_hubqr_weights(record.as_ptr(), record.len(), targets)
-    },
-};
-
-pub const DESK: DeskContender = DeskContender {
-    name: "engine, earlier",
-    begin: |desk| begun(desk, |desk| unsafe { earlier_hubqr_desk_begin(desk) }),
-    run: |desk, sector, request, area| {
-        let (words, length) = (area.as_mut_ptr(), area.len());
-        ran(desk, |desk| unsafe {
-            earlier_hubqr_desk_run(desk, sector, request, words, length)
-        })
     },
 };
 

@@ -75,7 +75,7 @@ pub fn desks() -> Vec<Contender> {
     vec![
         ENGINE,
         #[cfg(earlier)]
-        crate::earlier::DESK,
+        versions::earlier_hubqr::CONTENDER,
         versions::gcc_desk::CONTENDER,
         #[cfg(clang)]
         versions::clang_desk::CONTENDER,

@@ -1,6 +1,7 @@
-//! The version in C, as `build.rs` compiled it.
+//! The version in C, as `build.rs` compiled it, and the desk of an earlier archive, whose calls it
+//! gave other names.
 
-/// Declares the calls of desk.h under a compiler's prefix, and makes a contender of them.
+/// Declares the calls of desk.h under another prefix, and makes a contender of them.
 macro_rules! compiled {
     ($prefix:ident, $name:literal) => {
         pub mod $prefix {
@@ -41,3 +42,5 @@ macro_rules! compiled {
 compiled!(gcc_desk, "C, gcc");
 #[cfg(clang)]
 compiled!(clang_desk, "C, clang");
+#[cfg(earlier)]
+compiled!(earlier_hubqr, "engine, earlier");

@@ -1,7 +1,7 @@
 // Fetch for a sector.
 use crate::Desk;
 use crate::DeskReply;
-use crate::sector::job_of;
+use crate::sector::job_at;
 use crate::sector::sector_refusal;
 ghost use mathlib.Core.Path.{_≡_};
 ghost use Rattle.desk.specs.Fetch.{DeskFetchOutcome, deskFetchOf};
@@ -17,6 +17,6 @@ pub fn fetch(desk: Desk, sector: u32, area: &[i32], buffer: &mut [u8]) -> DeskRe
             number: refused,
         };
     }
-    let number = engine::fetch::fetch(job_of(desk, sector), area, buffer);
+    let number = engine::fetch::fetch(job_at(desk, sector), area, buffer);
     DeskReply { desk, number }
 }

@@ -1,6 +1,6 @@
 // The heard byte of a sector.
 use crate::Desk;
-use crate::sector::heard_of;
+use crate::sector::heard_at;
 use crate::sector::sector_refusal;
 ghost use mathlib.Core.Path.{_≡_};
 ghost use Rattle.desk.specs.Heard.{deskHeardOf};
@@ -25,7 +25,7 @@ pub fn heard(desk: Desk, sector: u32) -> DeskHeardReply
             heard: 0,
         };
     }
-    let heard = heard_of(desk, sector);
+    let heard = heard_at(desk, sector);
     DeskHeardReply {
         desk,
         number: 0,

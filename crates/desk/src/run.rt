@@ -1,6 +1,6 @@
 // Run for a sector: turns of the round for its job.
 use crate::Desk;
-use crate::sector::job_of;
+use crate::sector::job_at;
 use crate::sector::paid;
 use crate::sector::sector_refusal;
 use engine::job::Job;
@@ -44,7 +44,7 @@ fn run_refusal(desk: Desk, sector: u32, request: u16, area: &[i32]) -> u8
     if unknown != 0 {
         return unknown;
     }
-    let job = job_of(desk, sector);
+    let job = job_at(desk, sector);
     let refused = engine::run::run_refusal(job, area);
     if refused != 0 {
         return refused;
@@ -74,7 +74,7 @@ pub fn run(desk: Desk, sector: u32, request: u16, area: &mut [i32]) -> DeskRunRe
         };
     }
     let budget = smaller(request, desk.left);
-    let reply = engine::run::run(job_of(desk, sector), budget, area);
+    let reply = engine::run::run(job_at(desk, sector), budget, area);
     let job = reply.job;
     let count = reply.count;
     let after = paid(desk, sector, job, count as u16);

@@ -15,7 +15,7 @@ pub fn sector_refusal(sector: u32) -> u8
     0
 }
 
-pub fn job_of(desk: Desk, sector: u32) -> Job
+pub fn job_at(desk: Desk, sector: u32) -> Job
     requires { ⌜ sector < sectorCount ⌝ }
     ensures { λ r. ⌜ r ≡ jobAt desk sector ⌝ }
 {
@@ -23,7 +23,7 @@ pub fn job_of(desk: Desk, sector: u32) -> Job
     jobs[sector as usize]
 }
 
-pub fn heard_of(desk: Desk, sector: u32) -> u8
+pub fn heard_at(desk: Desk, sector: u32) -> u8
     requires { ⌜ sector < sectorCount ⌝ }
     ensures { λ r. ⌜ r ≡ heardAt desk sector ⌝ }
 {

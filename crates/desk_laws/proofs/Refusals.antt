@@ -3,17 +3,21 @@ use mathlib.Core.Path.{_≡_, refl, sym, ap, _∙_}
 use mathlib.Core.Bool.{Bool, true, false, cond}
 use mathlib.Core.List.{List, []}
 use Prim.Native.Nat.{ℕ, zero, suc}
-use borrow.Author.Tests.{eqb-true}
+use native.Mathlib.Omega.{arith}
+use borrow.Author.Tests.{eqb-true, lt-ltb}
 use lib.Dec.{eqb}
 use lib.IntN.{ℤ}
-use Rattle.engine.specs.Fetch.{fetchBy}
-use Rattle.desk.specs.Desk.{sectorTest, beginOf}
+use Rattle.refusals.specs.Refusals.{first}
+use Rattle.engine.specs.Load.{loadRefusal}
+use Rattle.engine.specs.Run.{runRefusal}
+use Rattle.engine.specs.Fetch.{fetchRefusal, fetchBy}
+use Rattle.desk.specs.Desk.{sectorTest, jobAt, beginOf}
 use Rattle.desk.specs.Load.{deskLoadRefusal, deskLoadBy, deskLoadOf}
-use Rattle.desk.specs.Run.{deskRunRefusal, deskRunDone, deskRunBy, deskRunOf}
+use Rattle.desk.specs.Run.{roundTest, deskRunRefusal, deskRunDone, deskRunBy, deskRunOf}
 use Rattle.desk.specs.Fetch.{deskFetchRefusal, deskFetchBy, deskFetchOf}
 use Rattle.desk.specs.Heard.{deskHeardBy, deskHeardOf}
 use Rattle.desk_laws.specs.Calls.{Lent, Call, load, run, fetch, heard, begin, Hub, lentWords, leftIn, put, Answer, bare, answer, next, Accepted}
-use Rattle.desk_laws.specs.Refusals.{bufferLent, wordsLent, RefusalsChangeNothing}
+use Rattle.desk_laws.specs.Refusals.{bufferLent, wordsLent, RefusalsChangeNothing, TwelveFirst}
 use Rattle.desk_laws.proofs.Seats.{left-same, loadHub, runHub, loadTold, runTold, fetchTold, heardTold}
 
 put-back : (h : Hub) (j : ℕ) (lent : Lent) (k : ℕ) → put (h .area) j (leftIn (h .area j) lent (lentWords (h .area j) lent)) k ≡ h .area k
@@ -66,4 +70,20 @@ refusals-change-nothing h c f =
       desk = s .desk;
       area = s .area;
       answer = s .told;
+    }
+
+-- ---- a sector above 7
+
+pub twelve-first : TwelveFirst
+unfolding answer deskLoadOf deskLoadRefusal deskLoadBy deskRunOf deskRunRefusal deskRunBy deskFetchOf deskFetchRefusal deskFetchBy deskHeardOf deskHeardBy
+twelve-first h i above =
+    let z : sectorTest i ≡ 12 = rw (lt-ltb 7 i (omega arith)) in
+    record {
+      load = λ rec lent. ap (λ (t : ℕ). loadTold h i rec lent (first t (loadRefusal rec (lentWords (h .area i) lent))) .number) z;
+      run = λ request lent.
+          let l = lentWords (h .area i) lent in
+          let job = jobAt (h .desk) i in
+          ap (λ (t : ℕ). runTold h i request lent (first t (first (runRefusal job l) (roundTest job (h .desk .left) request))) .number) z;
+      fetch = λ buffer lent. ap (λ (t : ℕ). first t (fetchRefusal (jobAt (h .desk) i) (lentWords (h .area i) lent) buffer)) z;
+      heard = ap (λ (t : ℕ). heardTold h i t .number) z;
     }

@@ -30,8 +30,8 @@ returns c = rw (← c .before .sector-refusal .ensures) (refused _ _ _ _ _ (c .i
 none : (c : tie.Else1) → sectorTest (c .before .before .before .args .sector) ≡ 0
 none c = sym (c .before .sector-refusal .ensures) ∙ c .if1 .left
 
-job-of-requires : tie.Need-job-of-requires
-job-of-requires c κs = sector-passed _ (none c)
+job-at-requires : tie.Need-job-at-requires
+job-at-requires c κs = sector-passed _ (none c)
 
 fetch-requires : tie.Need-fetch-requires
 fetch-requires c κs = search needs
@@ -56,7 +56,7 @@ returns-2 : tie.Need-returns-2
 unfolding deskFetchOf deskFetchRefusal fetchOf
 returns-2 c =
     let j = c .before .before .before .before in
-    rw (none (j .before), ← (j .job-of .ensures)) (fetched _ _ _ _ _ _ (c .before .before .fetch .ensures))
+    rw (none (j .before), ← (j .job-at .ensures)) (fetched _ _ _ _ _ _ (c .before .before .fetch .ensures))
 
 pub fetch-spec : {M : Type 1} → statement M
-fetch-spec = tie.close (tie.spec sector-refusal-requires returns job-of-requires fetch-requires same-length returns-2)
+fetch-spec = tie.close (tie.spec sector-refusal-requires returns job-at-requires fetch-requires same-length returns-2)

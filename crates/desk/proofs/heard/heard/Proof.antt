@@ -25,12 +25,12 @@ returns c = rw (← c .before .sector-refusal .ensures) (refused _ _ _ (c .if1 .
 none : (c : tie.Else1) → sectorTest (c .before .before .args .sector) ≡ 0
 none c = sym (c .before .sector-refusal .ensures) ∙ c .if1 .left
 
-heard-of-requires : tie.Need-heard-of-requires
-heard-of-requires c κs = sector-passed _ (none c)
+heard-at-requires : tie.Need-heard-at-requires
+heard-at-requires c κs = sector-passed _ (none c)
 
 returns-2 : tie.Need-returns-2
 unfolding deskHeardOf deskHeardBy
-returns-2 c = rw (none (c .before), c .heard-of .ensures)
+returns-2 c = rw (none (c .before), c .heard-at .ensures)
 
 pub heard-spec : {M : Type 1} → statement M
-heard-spec = tie.close (tie.spec sector-refusal-requires returns heard-of-requires returns-2)
+heard-spec = tie.close (tie.spec sector-refusal-requires returns heard-at-requires returns-2)

@@ -49,8 +49,8 @@ passed desk sector request area h =
 smaller-requires : tie.Need-smaller-requires
 smaller-requires c κs = search needs
 
-job-of-requires : tie.Need-job-of-requires
-job-of-requires c κs = sector-passed _ (passed _ _ _ _ (none (c .before)) .there)
+job-at-requires : tie.Need-job-at-requires
+job-at-requires c κs = sector-passed _ (passed _ _ _ _ (none (c .before)) .there)
 
 run-requires : tie.Need-run-requires
 run-requires c κs = search needs
@@ -72,7 +72,7 @@ ran : (c : tie.After-run) → let m = c .before .before .before in
     _≡_ {A = RunOutcome} (record { reply = c .run .result; workspace = c .run .last .1 .1 .0 }) (runDone job (min (m .smaller .result) (120 - job .turn)) (a .area .now))
 ran c =
     let j = c .before .before in
-    accepted _ _ _ _ _ _ (j .job-of .ensures) (passed _ _ _ _ (none (j .before .before)) .engine) (c .run .ensures)
+    accepted _ _ _ _ _ _ (j .job-at .ensures) (passed _ _ _ _ (none (j .before .before)) .engine) (c .run .ensures)
 
 few : (c : tie.After-run) → let a = c .before .before .before .before .before .before .before .args in c .run .result .count ≤ min (a .request) (a .desk .left)
 few c = let m = c .before .before .before in omega (arith, m .smaller .ensures, counted _ _ _ _ _ (ran c))
@@ -115,7 +115,7 @@ run-spec =
     same-length
     returns
     smaller-requires
-    job-of-requires
+    job-at-requires
     run-requires
     cast-paid
     paid-requires

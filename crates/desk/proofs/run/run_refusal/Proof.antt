@@ -18,8 +18,8 @@ returns c = rw (← c .before .sector-refusal .ensures) (first-is _ _ (c .if1 .t
 none : (c : tie.Else1) → sectorTest (c .before .before .args .sector) ≡ 0
 none c = sym (c .before .sector-refusal .ensures) ∙ c .if1 .left
 
-job-of-requires : tie.Need-job-of-requires
-job-of-requires c κs = sector-passed _ (none c)
+job-at-requires : tie.Need-job-at-requires
+job-at-requires c κs = sector-passed _ (none c)
 
 run-refusal-requires : tie.Need-run-refusal-requires
 run-refusal-requires c κs = search needs
@@ -28,7 +28,7 @@ returns-2 : tie.Need-returns-2
 unfolding deskRunRefusal
 returns-2 c =
     let j = c .before .before in
-    rw (none (j .before), ← (j .job-of .ensures), ← (c .before .run-refusal .ensures)) (first-is _ _ (c .if2 .taken))
+    rw (none (j .before), ← (j .job-at .ensures), ← (c .before .run-refusal .ensures)) (first-is _ _ (c .if2 .taken))
 
 round-refusal-requires : tie.Need-round-refusal-requires
 round-refusal-requires c κs = search needs
@@ -38,7 +38,7 @@ unfolding deskRunRefusal
 returns-3 c =
     let r = c .before .before in
     let j = r .before in
-    rw (none (j .before), ← (j .job-of .ensures), ← (r .run-refusal .ensures), c .before .if2 .left) (c .round-refusal .ensures)
+    rw (none (j .before), ← (j .job-at .ensures), ← (r .run-refusal .ensures), c .before .if2 .left) (c .round-refusal .ensures)
 
 pub run-refusal-spec : {M : Type 1} → statement M
 run-refusal-spec =
@@ -46,7 +46,7 @@ run-refusal-spec =
     (tie.spec
     sector-refusal-requires
     returns
-    job-of-requires
+    job-at-requires
     run-refusal-requires
     returns-2
     round-refusal-requires
