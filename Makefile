@@ -1,8 +1,9 @@
 # make                  lists this
-# make run              factors a sample record: shows the matrix, R and Q, checks them, and shows weights
+# make run              factors a sample record: shows the matrix, R and Q, checks them, and shows weights and the page for the fitter
 # make test             the gate: all that is proved and checked, ends in a line `N passed, 0 failed`
 # make build/libhubqr.a the archive for C and Rust
-# make build/qr         the program
+# make build/qr         the program that factors a matrix record
+# make build/page       the program that prints R of a result record
 # make prove            every crate from nothing, every wrong program
 # make check-docs       each promise is pinned, and the documents cite what is there
 # make check-format     the layout of the Rattle and the Rust side, and what clippy says of the latter
@@ -41,14 +42,14 @@ help:
 need-%: FORCE
 	@CC='$(CC)' CXX='$(CXX)' sh tools/need.sh $*
 
-prove build/libhubqr.a build/qr check-tools: | need-platform need-rt
+prove build/libhubqr.a build/qr build/page check-tools: | need-platform need-rt
 check-docs check-tools check-format check-rust demands bench figures $(TOOLS)/record $(EXAMPLES): | need-cargo
 check-format: | need-rt need-rustfmt need-clippy
 check-tools check-c check-examples bench: | need-cc need-gcc
 check-tools check-c: | need-c++
 
-run: $(TOOLS)/record build/qr
-	@sh examples/run.sh build/qr $(TOOLS)/record build/result.bin
+run: $(TOOLS)/record build/qr build/page
+	@sh examples/run.sh build/qr build/page $(TOOLS)/record build/result.bin
 
 # What takes seconds comes first. The proofs are made once, and what is tested after them is built from what they left. The last line is their
 # verdict again, N passed, 0 failed: it is printed only when nothing before it failed, and when docs/PINS.md has the same one. That page lists every
@@ -64,7 +65,7 @@ test: check-docs check-format check-tools prove check-edits check-face check-arc
 # Every crate from nothing, every wrong program, each program run. The status goes by a file, since that of a pipe is tee's.
 prove:
 	@mkdir -p build
-	@rm -f build/ci.status build/libhubqr.a build/qr
+	@rm -f build/ci.status build/libhubqr.a build/qr build/page
 	{ rt ci 2>&1; echo $$? > build/ci.status; } | tee build/ci.log
 	@exit "$$(cat build/ci.status)"
 
@@ -75,11 +76,11 @@ build/libhubqr.a: $(SOURCES)
 	@rt staticlib hubqr > build/staticlib.log 2>&1 || { cat build/staticlib.log; exit 1; }
 	@cp target/staticlib/libhubqr.a $@
 
-build/qr: $(SOURCES)
+build/qr build/page: $(SOURCES)
 	@mkdir -p build
-	@echo 'proving qr and what it stands on: one or two minutes, seconds where that has just been proved ..'
-	@rt check qr > build/qr.log 2>&1 || { cat build/qr.log; exit 1; }
-	@cp target/bin/qr $@
+	@echo 'proving $(@F) and what it stands on: one or two minutes, seconds where that has just been proved ..'
+	@rt check $(@F) > $@.log 2>&1 || { cat $@.log; exit 1; }
+	@cp target/bin/$(@F) $@
 
 $(TOOLS)/record: FORCE
 	@$(CARGO) build --release -p record
@@ -120,13 +121,13 @@ check-c: build/libhubqr.a
 	sh host/c/compile.sh
 	CC='$(CC)' CXX='$(CXX)' sh host/c/test.sh
 
-check-rust: build/libhubqr.a build/qr
+check-rust: build/libhubqr.a build/qr build/page
 	$(CARGO) test --release --workspace -- --nocapture
 	sh host/rust/test-project.sh
 	$(CARGO) run --release -p figures -- build
 	cmp build/errors.svg docs/figures/errors.svg
 
-check-examples: build/libhubqr.a build/qr $(EXAMPLES) $(TOOLS)/record
+check-examples: build/libhubqr.a build/qr build/page $(EXAMPLES) $(TOOLS)/record
 	$(CC) $(CFLAGS) -O2 examples/instalments.c build/libhubqr.a -o build/instalments
 	$(CC) $(CFLAGS) -O2 examples/snapshots.c build/libhubqr.a -o build/snapshots
 	$(CC) $(CFLAGS) -O2 examples/weights.c build/libhubqr.a -o build/weights
@@ -135,7 +136,7 @@ check-examples: build/libhubqr.a build/qr $(EXAMPLES) $(TOOLS)/record
 	sh examples/test-snapshots.sh build/snapshots $(TOOLS)/snapshots build/qr $(TOOLS)/record
 	sh examples/test-weights.sh build/weights $(TOOLS)/weights build/qr $(TOOLS)/record
 	sh examples/test-desk.sh build/desk $(TOOLS)/desk
-	sh examples/test-run.sh build/qr $(TOOLS)/record
+	sh examples/test-run.sh build/qr build/page $(TOOLS)/record
 
 bench: build/libhubqr.a
 	$(CARGO) run --release -p bench

@@ -1,10 +1,12 @@
 #!/bin/sh
-# Shows the product at work: a sample record, what the program makes of it, whether that is right, and the weights of it. Ends with 0 when it is right.
-# Usage: examples/run.sh QR RECORD RESULT    the programs qr and record, and the file for the result; from the top of the repository
+# Shows the product at work: a sample record, what the program makes of it, whether that is right, and the weights and the page of it. Ends with 0 when
+# it is right.
+# Usage: examples/run.sh QR PAGE RECORD RESULT    the programs qr, page and record, and the file for the result; from the top of the repository
 set -eu
 qr=$1
-record=$2
-result=$3
+page=$2
+record=$3
+result=$4
 sample=examples/records/hermitian.bin
 targets=examples/targets/weakest.txt
 
@@ -32,3 +34,9 @@ echo '   independent implementation works them out; the proved call, hubqr_weigh
 echo "   $ $record weights $result $targets"
 echo
 "$record" weights "$result" "$targets"
+echo
+echo '5. The page for the fitter, by the proved program page: R in 16 lines of 16 words, 12 columns each.'
+echo '   A whole line has 192 characters; here are the first eight words of each.'
+echo "   $ $page < $result | cut -c 1-96"
+echo
+"$page" <"$result" | cut -c 1-96

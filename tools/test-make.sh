@@ -8,9 +8,9 @@ unset MAKEFLAGS MAKELEVEL MFLAGS
 script=test-make
 . tools/checks.sh
 
-# The targets that are no files, and the two files that people ask for; `help` is what a bare `make` makes.
+# The targets that are no files, and the three files that people ask for; `help` is what a bare `make` makes.
 sed -n 's/^\.PHONY: //p' Makefile | tr ' ' '\n' | grep -v -x help >"$scratch/there"
-printf 'build/libhubqr.a\nbuild/qr\n' >>"$scratch/there"
+printf 'build/libhubqr.a\nbuild/qr\nbuild/page\n' >>"$scratch/there"
 make | sed -n 's/^make  *\([a-z/.-]*\)  *.*/\1/p' | grep -v -x lists >"$scratch/listed"
 sort -o "$scratch/there" "$scratch/there"
 sort -o "$scratch/listed" "$scratch/listed"
@@ -32,7 +32,7 @@ stops() {
     esac
 }
 
-for target in prove build/libhubqr.a build/qr check-tools; do
+for target in prove build/libhubqr.a build/qr build/page check-tools; do
     stops "$target" 'rt is not installed: '
 done
 for target in run check-format check-docs demands build/cargo/release/record; do

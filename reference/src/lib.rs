@@ -8,8 +8,8 @@
 //! [`calls`] has the five calls of the factorization, [`job`] what a host hands from one to the
 //! next, [`covariance`] the three that make a matrix record of snapshots, [`weights`] the one that
 //! solves for weights, and [`desk`] those for the eight sectors of a hub. [`accuracy`] has the exact
-//! errors of a worked matrix, [`cases`] and [`random`] the test matrices. [`listing`] and
-//! [`program`] say what the programs have to write.
+//! errors of a worked matrix, [`cases`] and [`random`] the test matrices. [`listing`],
+//! [`program`] and [`page`] say what the programs have to write.
 
 pub mod accuracy;
 pub mod area;
@@ -21,6 +21,7 @@ pub mod desk;
 pub mod job;
 pub mod listing;
 pub mod matrix;
+pub mod page;
 pub mod program;
 pub mod random;
 pub mod records;

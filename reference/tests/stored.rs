@@ -1,17 +1,21 @@
-//! The stored outputs of the programs are what the reference makes, and the run-only cases among
-//! them show what they are there to show.
+//! The stored outputs of the programs are what the reference makes, the sample inputs of `page` can
+//! be made again, and the run-only cases show what they are there to show.
 
 use std::collections::BTreeSet;
 use std::fs;
-use std::path::Path;
+use std::path::{Path, PathBuf};
 
 use reference::listing::listing;
+use reference::page::{page, Sample};
 use reference::program::respond;
 
+/// A file or folder of the repository.
+fn path(file: &str) -> PathBuf {
+    Path::new(env!("CARGO_MANIFEST_DIR")).join("..").join(file)
+}
+
 fn stored(file: &str) -> Vec<u8> {
-    let crates = Path::new(env!("CARGO_MANIFEST_DIR")).join("../crates");
-    let path = crates.join(file);
-    fs::read(&path).unwrap_or_else(|error| panic!("{}: {error}", path.display()))
+    fs::read(path(file)).unwrap_or_else(|error| panic!("{file}: {error}"))
 }
 
 /// What a line of the listing says of the memory.
@@ -21,13 +25,58 @@ fn digests(line: &str) -> &str {
 
 #[test]
 fn the_output_of_qr() {
-    let made = respond(&stored("qr/stdin"));
-    assert!(made == stored("qr/stdout"), "crates/qr/stdout is another");
+    let made = respond(&stored("crates/qr/stdin"));
+    let stored = stored("crates/qr/stdout");
+    assert!(made == stored, "crates/qr/stdout is another");
+}
+
+#[test]
+fn the_output_of_page() {
+    let made = page(&stored("crates/page/stdin"));
+    let stored = stored("crates/page/stdout");
+    assert!(made == stored, "crates/page/stdout is another");
+}
+
+#[test]
+fn the_input_of_page_is_the_output_of_qr() {
+    let written = stored("crates/qr/stdout");
+    let read = stored("crates/page/stdin");
+    assert!(written == read, "crates/page/stdin is another");
+}
+
+#[test]
+fn the_sample_inputs_of_page_and_their_pages() {
+    for sample in Sample::ALL {
+        let [input, text] =
+            ["bin", "txt"].map(|kind| format!("examples/results/{}.{kind}", sample.name()));
+        let made = sample.bytes();
+        assert!(made == stored(&input), "{input} is another");
+        assert!(page(&made) == stored(&text), "{text} is another");
+    }
+}
+
+#[test]
+fn the_samples_of_the_stored_matrix() {
+    let matrix = stored("examples/records/hermitian.bin");
+    assert!(stored("examples/results/matrix.bin") == matrix);
+    assert!(stored("examples/results/hermitian.bin") == respond(&matrix));
+}
+
+#[test]
+fn no_other_sample_is_stored() {
+    let names = Sample::ALL.map(Sample::name).into_iter();
+    let files = names.flat_map(|name| ["bin", "txt"].map(|kind| format!("{name}.{kind}")));
+    let expected: BTreeSet<String> = files.chain(["README.md".into()]).collect();
+    let folder = fs::read_dir(path("examples/results")).expect("the folder is there");
+    let names = folder.map(|entry| entry.expect("an entry of the folder").file_name());
+    let found: BTreeSet<String> = names.map(|name| name.to_string_lossy().into()).collect();
+    assert_eq!(found, expected);
 }
 
 #[test]
 fn the_output_of_cases() {
-    let stored = String::from_utf8(stored("cases/stdout")).expect("the listing is text");
+    let stored = stored("crates/cases/stdout");
+    let stored = String::from_utf8(stored).expect("the listing is text");
     let made = listing();
     for (number, (stored, made)) in stored.lines().zip(made.lines()).enumerate() {
         assert_eq!(stored, made, "line {}", number + 1);

@@ -9,6 +9,7 @@ use lib.ListN.{length, take, drop}
 use lib.Seq.{take-at}
 use Rattle.lists.specs.Lists.{filled, tabulate}
 use Rattle.lists.proofs.Tabulate.{length-tabulate, getD-tabulate, length-filled}
+use Rattle.words.specs.Words.{Bytes}
 use Rattle.result_record.specs.ResultRecord.{resultByte, resultRecord, recordR, recordQ}
 use Rattle.result_record.proofs.ResultRecord.{finished-same}
 use Rattle.workspace.specs.Workspace.{R, Q}
@@ -19,7 +20,7 @@ use Rattle.engine.specs.Job.{readJob}
 use Rattle.engine.specs.Fetch.{fetchRefusal, fetchBy, fetchOf}
 use Rattle.engine.specs.Read.{readRefusal, readBy, readOf}
 use Rattle.engine.proofs.Accepted.{fetch-accepted, fetch-passes, read-accepted, read-passes}
-use Rattle.engine_laws.specs.RoundTrip.{Words32, Bytes, FetchThenRead, ReadThenFetch}
+use Rattle.engine_laws.specs.RoundTrip.{Words32, FetchThenRead, ReadThenFetch}
 
 -- ---- a fetched record
 

@@ -2,13 +2,14 @@
 -- Assumes nothing.
 use mathlib.Core.Path.{_≡_, refl}
 use mathlib.Core.List.{List, _∷_, _++_}
-use Prim.Native.Nat.{ℕ, _≤_, _<_}
+use Prim.Native.Nat.{ℕ, _≤_}
 use lib.IntN.{ℤ, pos}
 use lib.ListN.{length, getD, take, drop, replicate}
 use mir.Syntax.{w32}
 use mir.Val.{SFits}
 use Rattle.lists.specs.Lists.{allBelow}
 use Rattle.refusals.specs.Refusals.{headerTest}
+use Rattle.words.specs.Words.{Bytes}
 use Rattle.result_record.specs.ResultRecord.{resultBytes, recordWord, recordR, isFinishedAt, isFinished}
 use Rattle.workspace.specs.Workspace.{workspaceWords, wordIn, R}
 use Rattle.engine.specs.declared.job.Job.{Job}
@@ -16,12 +17,9 @@ use Rattle.engine.specs.Job.{readJob, jobTest}
 use Rattle.engine.specs.Fetch.{fetchRefusal, fetchOf}
 use Rattle.engine.specs.Read.{readRefusal, readOf}
 
--- what a lent slice of 32-bit words, and one of bytes, always is
+-- what a lent slice of 32-bit words always is
 abbrev pub Words32 : List ℤ → Type 0
 Words32 l = (k : ℕ) → SFits w32 (getD l k (pos 0))
-
-abbrev pub Bytes : List ℕ → Type 0
-Bytes rec = (k : ℕ) → getD rec k 0 < 256
 
 -- what an accepted Fetch writes, Read accepts, and it fills any workspace with the same 512 words
 abbrev pub FetchThenRead : Type 0

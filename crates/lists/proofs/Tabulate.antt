@@ -1,10 +1,10 @@
 -- Length and elements of `tabulate` and `filled`. Assumes nothing.
 use mathlib.Core.Path.{_≡_, refl, sym, ap, _∙_, subst}
-use mathlib.Core.List.{List, _++_, append-nil}
+use mathlib.Core.List.{List, _∷_, _++_, append-nil}
 use Prim.Native.Nat.{ℕ, zero, suc, _<_, _≤_}
 use native.Mathlib.Nat.{not-suc-le-zero, le-of-suc-le-suc}
 use native.Mathlib.Omega.{arith}
-use lib.ListN.{length, getD, drop, length-append, length-drop, drop-of-length-le, List·getD-append}
+use lib.ListN.{length, getD, drop, replicate, length-append, length-drop, drop-of-length-le, List·getD-append}
 use lib.Seq.{ext-getD, drop-at}
 use Rattle.lists.specs.Lists.{tabulate, filled}
 
@@ -37,6 +37,12 @@ module _ {A : Type 0} where
   tabulate-is n f xs d e h =
       ext-getD d (tabulate n f) xs (length-tabulate n f ∙ sym e)
       (λ k l. let b : k < n = subst (λ (m : ℕ). k < m) (length-tabulate n f) l in getD-tabulate n f d k b ∙ h k b)
+
+  -- one element throughout
+  pub tabulate-one : (n : ℕ) (a : A) → tabulate n (λ k. a) ≡ replicate n a
+  unfolding tabulate
+  tabulate-one zero a = refl
+  tabulate-one (suc n) a = ap (λ (l : List A). a ∷ l) (tabulate-one n a)
 
   -- no more than n elements are all replaced
   pub filled-all : (n : ℕ) (f : ℕ → A) (xs : List A) → length xs ≤ n → filled n f xs ≡ tabulate n f

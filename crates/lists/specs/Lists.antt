@@ -13,6 +13,11 @@ tabulate (suc n) f = f zero ∷ tabulate n (λ k. f (suc k))
 unfoldable pub filled : {A : Type 0} → ℕ → (ℕ → A) → List A → List A
 filled n f xs = tabulate n f ++ drop n xs
 
+-- the lists f 0, f 1, .., f (n - 1), one behind another
+unfoldable pub joined : {A : Type 0} → ℕ → (ℕ → List A) → List A
+joined zero f = []
+joined (suc n) f = joined n f ++ f n
+
 -- the sum of a list of numbers
 unfoldable pub sumOf : List ℕ → ℕ
 sumOf [] = 0

@@ -1,38 +1,26 @@
 -- The premises of the theorems can be met: by a record that is accepted with any targets and whose bytes are all below 256, and by the loudest targets.
 -- Assumes nothing.
 use mathlib.Core.Path.{_≡_, refl}
-use mathlib.Core.Bool.{Bool, true, _&&_}
 use mathlib.Core.List.{List, [], _∷_}
 use Prim.Native.Nat.{ℕ, zero, suc}
-use borrow.Author.Tests.{ltb-true}
-use lib.Dec.{lit<, ltb}
+use lib.Dec.{lit<}
 use lib.IntN.{pos, negsuc}
 use lib.ListN.{replicate}
-use Rattle.lists.proofs.Passing.{and-parts}
+use Rattle.words.specs.Words.{Bytes}
+use Rattle.words.proofs.Bytes.{areBytes, bytes-of}
 use Rattle.covariance.specs.declared.Sample.{Sample}
-use Rattle.engine_laws.specs.RoundTrip.{Bytes}
 use Rattle.weights.specs.Weights.{weightsOf}
 use Rattle.weights_laws.specs.Replies.{Targets16}
 use Rattle.weights_laws.specs.Judged.{ones, diagonal, judgements, judged}
 
 -- ---- a record
 
-small : List ℕ → Bool
-small [] = true
-small (b ∷ bs) = ltb b 256 && small bs
-
-bytes-of : (bs : List ℕ) → small bs ≡ true → Bytes bs
-unfolding small
-bytes-of [] e k = lit< tt
-bytes-of (b ∷ bs) e zero = ltb-true b 256 (and-parts (ltb b 256) (small bs) e .0)
-bytes-of (b ∷ bs) e (suc k) = bytes-of bs (and-parts (ltb b 256) (small bs) e .1) k
-
 -- the last row of `judged`: its diagonal words are 1, and the last is -1
 abbrev some-record : List ℕ
 some-record = diagonal (0 ∷ 0 ∷ 0 ∷ 1 ∷ []) (255 ∷ 255 ∷ 255 ∷ 255 ∷ [])
 
 pub record-possible : Bytes some-record × ((targets : List Sample) → weightsOf some-record targets .number ≡ 0)
-unfolding small diagonal ones judgements
+unfolding areBytes diagonal ones judgements
 record-possible = (bytes-of some-record refl, judged .1 .1 .1 .1 .1 .1 .1 .0)
 
 -- ---- targets

@@ -3,8 +3,8 @@
 use Prim.Native.Nat.{ℕ, _*_, _^_, _≤_, _<_}
 use mathlib.Core.List.{List}
 use lib.Ieee.{Float, nan, inf, fin, up, down}
+use Rattle.words.specs.Words.{Bytes}
 use Rattle.covariance.specs.declared.Sample.{Sample}
-use Rattle.engine_laws.specs.RoundTrip.{Bytes}
 use Rattle.weights_laws.specs.Replies.{Targets16, weightAt}
 
 -- neither NaN nor infinity, and at most 2 ^ k either way. The float `fin s m e` is m times 2 ^ e, with the sign s; 2 ^ e is up e / down e

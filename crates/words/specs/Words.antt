@@ -1,10 +1,15 @@
 -- Document 01: numbers in records are two's complement, high byte first. `toZ` and `ofZ` are the language's own two's complement:
 -- `toZ w n` is the signed number that the bits n stand for, and `ofZ w z` the bits of z. Assumes nothing.
-use Prim.Native.Nat.{ℕ, _+_, _-_, _*_, _/_, _%_, _^_}
+use Prim.Native.Nat.{ℕ, _+_, _-_, _*_, _/_, _%_, _^_, _<_}
 use mathlib.Core.List.{List, [], _∷_}
 use lib.IntN.{ℤ}
+use lib.ListN.{getD}
 use mir.Syntax.{w16, w32}
 use mir.Val.{toZ, ofZ}
+
+-- what a lent slice of bytes always is
+abbrev pub Bytes : List ℕ → Type 0
+Bytes bytes = (k : ℕ) → getD bytes k 0 < 256
 
 -- the signed 16-bit number in two bytes
 abbrev pub int16 : ℕ → ℕ → ℤ

@@ -1,21 +1,25 @@
-//! Writes what a program of the product has to write, to standard output.
+//! Writes what a program of the product has to write, or a sample input, to standard output.
 //!
 //! ```text
-//! expected cases         what `cases` writes
-//! expected whole FILE    what `qr` writes for the input in FILE
+//! expected cases          what `cases` writes
+//! expected whole FILE     what `qr` writes for the input in FILE
+//! expected page FILE      what `page` writes for the input in FILE
+//! expected sample NAME    the input of `page` that `examples/results/NAME.bin` stores
 //! ```
 
 use std::env;
-use std::ffi::OsString;
+use std::ffi::{OsStr, OsString};
 use std::fs;
 use std::io::{self, Write};
 use std::path::Path;
 use std::process::ExitCode;
 
 use reference::listing::listing;
+use reference::page::{page, Sample};
 use reference::program::respond;
 
-const USAGE: &str = "usage: expected cases | expected whole FILE";
+const USAGE: &str = "usage: expected cases | expected whole FILE | expected page FILE | \
+                     expected sample NAME";
 
 fn main() -> ExitCode {
     let written = expected().and_then(|bytes| {
@@ -35,10 +39,19 @@ fn expected() -> Result<Vec<u8>, String> {
     let words: Vec<OsString> = env::args_os().skip(1).collect();
     match words.as_slice() {
         [word] if word == "cases" => Ok(listing().into_bytes()),
-        [word, file] if word == "whole" => match fs::read(file) {
-            Ok(record) => Ok(respond(&record)),
-            Err(error) => Err(format!("{}: {error}", Path::new(file).display())),
-        },
+        [word, file] if word == "whole" => Ok(respond(&contents(file)?)),
+        [word, file] if word == "page" => Ok(page(&contents(file)?)),
+        [word, name] if word == "sample" => Ok(sample(name)?.bytes()),
         _ => Err(USAGE.into()),
     }
+}
+
+fn sample(name: &OsStr) -> Result<Sample, String> {
+    let mut samples = Sample::ALL.into_iter();
+    let sample = samples.find(|sample| name == sample.name());
+    sample.ok_or_else(|| format!("{}: no such sample", Path::new(name).display()))
+}
+
+fn contents(file: &OsStr) -> Result<Vec<u8>, String> {
+    fs::read(file).map_err(|error| format!("{}: {error}", Path::new(file).display()))
 }

@@ -1,0 +1,1 @@
+// Theorems on pages: definitions and laws, and no code.
