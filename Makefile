@@ -1,5 +1,5 @@
 # make                  lists this
-# make run              factors a sample record: shows the matrix, R and Q, checks them, and shows weights and the page for the fitter
+# make run              factors a sample record: shows the matrix, R and Q, checks them, and shows weights and half of the page
 # make test             the gate: all that is proved and checked, ends in a line `N passed, 0 failed`
 # make build/libhubqr.a the archive for C and Rust
 # make build/qr         the program that factors a matrix record
@@ -78,7 +78,7 @@ build/libhubqr.a: $(SOURCES)
 
 build/qr build/page: $(SOURCES)
 	@mkdir -p build
-	@echo 'proving $(@F) and what it stands on: one or two minutes, seconds where that has just been proved ..'
+	@echo 'proving $(@F) and what it stands on: up to two minutes, seconds where that has just been proved ..'
 	@rt check $(@F) > $@.log 2>&1 || { cat $@.log; exit 1; }
 	@cp target/bin/$(@F) $@
 

@@ -1,5 +1,5 @@
 #!/bin/sh
-# Shows the product at work: a sample record, what the program makes of it, whether that is right, and the weights and the page of it. Ends with 0 when
+# Shows the product at work: a sample record, what the program `qr` makes of it, whether that is right, and the weights and the page of it. Ends with 0 when
 # it is right.
 # Usage: examples/run.sh QR PAGE RECORD RESULT    the programs qr, page and record, and the file for the result; from the top of the repository
 set -eu

@@ -2,7 +2,7 @@
 
 mod sample;
 
-pub use sample::{extreme_words, Sample};
+pub use sample::{extreme_words, PageSample};
 
 use std::iter;
 

@@ -6,7 +6,7 @@ use std::fs;
 use std::path::{Path, PathBuf};
 
 use reference::listing::listing;
-use reference::page::{page, Sample};
+use reference::page::{page, PageSample};
 use reference::program::respond;
 
 /// A file or folder of the repository.
@@ -46,7 +46,7 @@ fn the_input_of_page_is_the_output_of_qr() {
 
 #[test]
 fn the_sample_inputs_of_page_and_their_pages() {
-    for sample in Sample::ALL {
+    for sample in PageSample::ALL {
         let [input, text] =
             ["bin", "txt"].map(|kind| format!("examples/results/{}.{kind}", sample.name()));
         let made = sample.bytes();
@@ -56,15 +56,8 @@ fn the_sample_inputs_of_page_and_their_pages() {
 }
 
 #[test]
-fn the_samples_of_the_stored_matrix() {
-    let matrix = stored("examples/records/hermitian.bin");
-    assert!(stored("examples/results/matrix.bin") == matrix);
-    assert!(stored("examples/results/hermitian.bin") == respond(&matrix));
-}
-
-#[test]
 fn no_other_sample_is_stored() {
-    let names = Sample::ALL.map(Sample::name).into_iter();
+    let names = PageSample::ALL.map(PageSample::name).into_iter();
     let files = names.flat_map(|name| ["bin", "txt"].map(|kind| format!("{name}.{kind}")));
     let expected: BTreeSet<String> = files.chain(["README.md".into()]).collect();
     let folder = fs::read_dir(path("examples/results")).expect("the folder is there");

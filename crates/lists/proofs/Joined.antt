@@ -102,7 +102,8 @@ pub join-done : {A : Type 0} {size : ℕ} {f : ℕ → List A} {d a : List A} {j
 join-done {A} {size} {f} {d} {a} {j} s h = s .is ∙ ap (λ (x : List A). joined j f ++ x) (drop-of-length-le d h) ∙ append-nil (joined j f)
 
 -- and one element behind them, for which alone d has room
-pub join-last : {A : Type 0} {size : ℕ} {f : ℕ → List A} {d a : List A} {j : ℕ} (v : A) → Joining size f d j a → length d ≡ size * j + 1 → set a (size * j) v ≡ joined j f ++ v ∷ []
+pub join-last : {A : Type 0} {size : ℕ} {f : ℕ → List A} {d a : List A} {j : ℕ} (v : A) → Joining size f d j a
+    → length d ≡ size * j + 1 → set a (size * j) v ≡ joined j f ++ v ∷ []
 join-last {A} {size} {f} {d} {a} {j} v s h =
     ap (λ (x : List A). set x (size * j) v) (s .is)
     ∙ put-one (joined j f) d (size * j) v (s .long) (omega arith)

@@ -1,10 +1,10 @@
--- Length and elements of `tabulate` and `filled`. Assumes nothing.
+-- Length and elements of `tabulate` and `filled`, and of lists of one element throughout. Assumes nothing.
 use mathlib.Core.Path.{_≡_, refl, sym, ap, _∙_, subst}
-use mathlib.Core.List.{List, _∷_, _++_, append-nil}
+use mathlib.Core.List.{List, [], _∷_, _++_, append-nil}
 use Prim.Native.Nat.{ℕ, zero, suc, _<_, _≤_}
 use native.Mathlib.Nat.{not-suc-le-zero, le-of-suc-le-suc}
 use native.Mathlib.Omega.{arith}
-use lib.ListN.{length, getD, drop, replicate, length-append, length-drop, drop-of-length-le, List·getD-append}
+use lib.ListN.{length, getD, set, take, drop, replicate, length-append, length-drop, drop-of-length-le, List·getD-append}
 use lib.Seq.{ext-getD, drop-at}
 use Rattle.lists.specs.Lists.{tabulate, filled}
 
@@ -43,6 +43,17 @@ module _ {A : Type 0} where
   unfolding tabulate
   tabulate-one zero a = refl
   tabulate-one (suc n) a = ap (λ (l : List A). a ∷ l) (tabulate-one n a)
+
+  pub take-replicate : (k n : ℕ) (a : A) → k ≤ n → take k (replicate n a) ≡ replicate k a
+  take-replicate zero n a h = refl
+  take-replicate (suc k) zero a h = absurd (not-suc-le-zero h)
+  take-replicate (suc k) (suc n) a h = ap (λ (l : List A). a ∷ l) (take-replicate k n a (le-of-suc-le-suc h))
+
+  -- what stands from an element on, after a store there
+  pub drop-set-same : (xs : List A) (k : ℕ) (a : A) → k < length xs → drop k (set xs k a) ≡ a ∷ drop (suc k) xs
+  drop-set-same [] k a h = absurd (not-suc-le-zero h)
+  drop-set-same (x ∷ xs) zero a h = refl
+  drop-set-same (x ∷ xs) (suc k) a h = drop-set-same xs k a (le-of-suc-le-suc h)
 
   -- no more than n elements are all replaced
   pub filled-all : (n : ℕ) (f : ℕ → A) (xs : List A) → length xs ≤ n → filled n f xs ≡ tabulate n f

@@ -1,16 +1,17 @@
 -- A word is put into 12 columns from the right: what the columns hold while digits are put, when all are, and what the sign makes of them. Assumes nothing.
-use mathlib.Core.Path.{_≡_, refl, sym, ap, ap₂, _∙_, subst}
+use mathlib.Core.Path.{_≡_, sym, ap, ap₂, _∙_, subst}
 use mathlib.Core.Bool.{true, false}
 use mathlib.Core.List.{List, [], _∷_, _++_, append-assoc, append-nil}
 use Prim.Native.Nat.{ℕ, zero, suc, _-_, _/_, _^_, _≤_, _<_}
-use native.Mathlib.Nat.{not-suc-le-zero, le-of-suc-le-suc}
+use native.Mathlib.Nat.{not-suc-le-zero, lt-of-lt-of-le, pow-le-pow-right}
 use native.Mathlib.Omega.{arith}
 use borrow.Author.Tests.{ltb-true}
 use lib.Dec.{T}
 use lib.IntN.{ℤ, pos, negsuc, natAbs}
 use lib.Signed.{ltZ}
 use lib.ListN.{length, set, take, drop, replicate, length-set, length-drop, take-append-drop}
-use lib.Seq.{take-set-le, take-take, drop-cons, drop-set-lt, getD-set-same, set-split}
+use lib.Seq.{take-set-le, take-take, set-split}
+use Rattle.lists.proofs.Tabulate.{take-replicate, drop-set-same}
 use Rattle.page_text.specs.Decimal.{blank, minus, lastDigit, decimalℕ, decimal, rightAligned, field}
 use Rattle.page_text.proofs.Decimal.{digits-below, decimal-more, tenth}
 
@@ -20,7 +21,6 @@ pub record Spelling (m n at : ℕ) (columns : List ℕ) : Type 0 where
   pub size : length columns ≡ 12
   pub low : 3 ≤ at
   pub high : at ≤ 12
-  pub small : n < 10 ^ 10
   pub left : n < 10 ^ (at - 2)
   pub blanks : take at columns ≡ replicate at blank
   pub tail : decimalℕ n ++ drop at columns ≡ decimalℕ m
@@ -39,7 +39,6 @@ spell-none m columns h e =
       size = ap length e;
       low = omega arith;
       high = omega arith;
-      small = h;
       left = h;
       blanks = ap (take 12) e;
       tail = ap (λ (l : List ℕ). decimalℕ m ++ drop 12 l) e ∙ append-nil (decimalℕ m);
@@ -47,54 +46,45 @@ spell-none m columns h e =
 
 -- ---- one digit
 
-take-blanks : (p n : ℕ) → p ≤ n → take p (replicate n blank) ≡ replicate p blank
-take-blanks zero n h = refl
-take-blanks (suc p) zero h = absurd (not-suc-le-zero h)
-take-blanks (suc p) (suc n) h = ap (λ (l : List ℕ). blank ∷ l) (take-blanks p n (le-of-suc-le-suc h))
-
 -- the columns before one of blank columns are blank
 blanks-before : (at p : ℕ) (columns : List ℕ) → take at columns ≡ replicate at blank → p ≤ at → take p columns ≡ replicate p blank
-blanks-before at p columns e h = sym (take-take p at columns h) ∙ ap (take p) e ∙ take-blanks p at h
+blanks-before at p columns e h = sym (take-take p at columns h) ∙ ap (take p) e ∙ take-replicate p at blank h
 
--- what stands from a column on, after a store there
-drop-stored : (columns : List ℕ) (p v : ℕ) → p < length columns → drop p (set columns p v) ≡ v ∷ drop (suc p) columns
-drop-stored columns p v h =
-    drop-cons (set columns p v) p 0 (rw (length-set columns p v) h)
-    ∙ ap₂ (λ (x : ℕ) (l : List ℕ). x ∷ l) (getD-set-same columns p v 0 h) (drop-set-lt (suc p) columns p v (omega arith))
-
--- a number of two digits or more leaves a column to the next digit, one to the sign, and one
-three : (n at : ℕ) → n < 10 ^ (at - 2) → 9 < n → 4 ≤ at
-three n zero h f = absurd (omega arith)
-three n (suc zero) h f = absurd (omega arith)
-three n (suc (suc zero)) h f = absurd (omega arith)
-three n (suc (suc (suc zero))) h f = absurd (omega arith)
-three n (suc (suc (suc (suc k)))) h f = omega arith
+-- a number of two digits or more leaves a column to each of them, one to the sign, and one that stays blank
+four-left : (n at : ℕ) → n < 10 ^ (at - 2) → 9 < n → 4 ≤ at
+four-left n zero h f = absurd (omega arith)
+four-left n (suc zero) h f = absurd (omega arith)
+four-left n (suc (suc zero)) h f = absurd (omega arith)
+four-left n (suc (suc (suc zero))) h f = absurd (omega arith)
+four-left n (suc (suc (suc (suc k)))) h f = omega arith
 
 module _ {m n at : ℕ} {columns : List ℕ} (s : Spelling m n at columns) (p : ℕ) (e : suc p ≡ at) where
   within : p < length columns
   within = omega (arith, s .size, s .high)
 
   stored : drop p (set columns p (lastDigit n)) ≡ lastDigit n ∷ drop at columns
-  stored = drop-stored columns p (lastDigit n) within ∙ ap (λ (k : ℕ). lastDigit n ∷ drop k columns) e
+  stored = drop-set-same columns p (lastDigit n) within ∙ ap (λ (k : ℕ). lastDigit n ∷ drop k columns) e
 
   before : take p (set columns p (lastDigit n)) ≡ replicate p blank
   before = take-set-le p columns p (lastDigit n) (omega arith) ∙ blanks-before at p columns (s .blanks) (omega arith)
 
+  small : n < 10 ^ 10
+  small = lt-of-lt-of-le (s .left) (pow-le-pow-right {n = 10} (omega arith) {i = at - 2} {j = 10} (omega (arith, s .high)))
+
   pub spell-more : 9 < n → Spelling m (n / 10) p (set columns p (lastDigit n))
   spell-more h =
-      let four : 4 ≤ at = three n at (s .left) h in
+      let four : 4 ≤ at = four-left n at (s .left) h in
       let q : at - 2 ≡ suc (p - 2) = omega arith in
       record {
         size = length-set columns p (lastDigit n) ∙ s .size;
         low = omega arith;
         high = omega (arith, s .high);
-        small = omega (arith, s .small);
         left = tenth n (p - 2) (subst (λ (k : ℕ). n < 10 ^ k) q (s .left));
         blanks = before;
         tail =
             ap (λ (l : List ℕ). decimalℕ (n / 10) ++ l) stored
             ∙ sym (append-assoc (decimalℕ (n / 10)) (lastDigit n ∷ []) (drop at columns))
-            ∙ ap (λ (l : List ℕ). l ++ drop at columns) (sym (decimal-more n h (s .small)))
+            ∙ ap (λ (l : List ℕ). l ++ drop at columns) (sym (decimal-more n h small))
             ∙ s .tail;
       }
 

@@ -17,12 +17,12 @@ const LINE: usize = 193;
 
 pub const PAGE: usize = 3088;
 
-// The absolute value of a word.
+// The absolute value of a word. That of the least word is no i32, so 1 is added before the sign is changed, and again after it.
 fn magnitude(w: i32) -> u32
     ensures { λ r. ⌜ r ≡ natAbs w ⌝ }
 {
     if w < 0 {
-        return (0 - w as i64) as u32;
+        return (-(w + 1)) as u32 + 1;
     }
     w as u32
 }

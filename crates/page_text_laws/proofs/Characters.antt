@@ -24,42 +24,42 @@ digit-printed n =
 
 -- ---- all characters of a list
 
-abbrev pub Printed : List ℕ → Type 0
-Printed [] = Unit {0}
-Printed (c ∷ cs) = (isPrinted c ≡ true) × Printed cs
+abbrev pub OnlyPrinted : List ℕ → Type 0
+OnlyPrinted [] = Unit {0}
+OnlyPrinted (c ∷ cs) = (isPrinted c ≡ true) × OnlyPrinted cs
 
-pub printed-at : (cs : List ℕ) → Printed cs → (k : ℕ) → k < length cs → isPrinted (getD cs k 0) ≡ true
+pub printed-at : (cs : List ℕ) → OnlyPrinted cs → (k : ℕ) → k < length cs → isPrinted (getD cs k 0) ≡ true
 printed-at [] p k h = absurd (not-suc-le-zero h)
 printed-at (c ∷ cs) p zero h = p .0
 printed-at (c ∷ cs) p (suc k) h = printed-at cs (p .1) k (le-of-suc-le-suc h)
 
-printed-append : (cs ds : List ℕ) → Printed cs → Printed ds → Printed (cs ++ ds)
+printed-append : (cs ds : List ℕ) → OnlyPrinted cs → OnlyPrinted ds → OnlyPrinted (cs ++ ds)
 printed-append [] ds p q = q
 printed-append (c ∷ cs) ds p q = (p .0, printed-append cs ds (p .1) q)
 
-printed-blanks : (n : ℕ) → Printed (replicate n blank)
+printed-blanks : (n : ℕ) → OnlyPrinted (replicate n blank)
 printed-blanks zero = tt
 printed-blanks (suc n) = (refl, printed-blanks n)
 
-printed-digits : (k n : ℕ) → Printed (digits k n)
+printed-digits : (k n : ℕ) → OnlyPrinted (digits k n)
 unfolding digits
 printed-digits zero n = (digit-printed n, tt)
 printed-digits (suc k) n = pick (ltb n 10) (printed-digits k (n / 10))
   where
-    pick : (t : Bool) → Printed (digits k (n / 10)) → Printed (cond t (lastDigit n ∷ []) (digits k (n / 10) ++ lastDigit n ∷ []))
+    pick : (t : Bool) → OnlyPrinted (digits k (n / 10)) → OnlyPrinted (cond t (lastDigit n ∷ []) (digits k (n / 10) ++ lastDigit n ∷ []))
     pick true p = (digit-printed n, tt)
     pick false p = printed-append (digits k (n / 10)) (lastDigit n ∷ []) p (digit-printed n, tt)
 
-printed-decimal : (z : ℤ) → Printed (decimal z)
+printed-decimal : (z : ℤ) → OnlyPrinted (decimal z)
 unfolding decimal
 printed-decimal (pos n) = printed-digits 9 n
 printed-decimal (negsuc n) = (refl, printed-digits 9 (suc n))
 
-pub printed-field : (z : ℤ) → Printed (field z)
+pub printed-field : (z : ℤ) → OnlyPrinted (field z)
 unfolding field
 printed-field z = printed-append (replicate (12 - length (decimal z)) blank) (decimal z) (printed-blanks (12 - length (decimal z))) (printed-decimal z)
 
-pub printed-joined : (n : ℕ) (f : ℕ → List ℕ) → ((j : ℕ) → Printed (f j)) → Printed (joined n f)
+pub printed-joined : (n : ℕ) (f : ℕ → List ℕ) → ((j : ℕ) → OnlyPrinted (f j)) → OnlyPrinted (joined n f)
 unfolding joined
 printed-joined zero f p = tt
 printed-joined (suc n) f p = printed-append (joined n f) (f n) (printed-joined n f p) (p n)

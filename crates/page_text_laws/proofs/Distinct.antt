@@ -1,5 +1,5 @@
 -- Pages tell their records apart: what is read back from the same page is the same. Assumes nothing.
-use mathlib.Core.Path.{_≡_, sym, ap, _∙_}
+use mathlib.Core.Path.{_≡_, refl, sym, ap, _∙_}
 use mathlib.Core.List.{List, [], _∷_, _++_}
 use mathlib.Core.Option.{Option·some-injective}
 use Prim.Native.Nat.{ℕ, _<_}
@@ -11,7 +11,7 @@ use Rattle.words.specs.Words.{Bytes}
 use Rattle.result_record.specs.ResultRecord.{recordR, recordRefusal}
 use Rattle.page_text.specs.Decimal.{lineFeed, field}
 use Rattle.page_text.specs.Page.{lineOf, pageOfR, pageOf}
-use Rattle.page_text.proofs.Page.{page-accepted}
+use Rattle.page_text.proofs.Page.{page-accepted, page-refused}
 use Rattle.page_text_laws.specs.Reading.{lineAt, columnsAt, numberIn}
 use Rattle.page_text_laws.specs.Distinct.{SameR, Distinct}
 use Rattle.page_text_laws.proofs.Lines.{page-length, word-at, refused-length, refused-read}
@@ -38,6 +38,9 @@ module _ (a b : List ℕ) where
   same-number p q e =
       ap natAbs (Option·some-injective _ _ (sym (refused-read a p) ∙ ap (λ (page : List ℕ). numberIn (take 12 page)) e ∙ refused-read b q))
 
+  same-line : (recordRefusal a ≡ 0 → ⊥) → recordRefusal a ≡ recordRefusal b → pageOf a ≡ pageOf b
+  same-line p e = page-refused a (recordRefusal a) refl p ∙ sym (page-refused b (recordRefusal a) (sym e) p)
+
   other-length : Bytes a → recordRefusal a ≡ 0 → (recordRefusal b ≡ 0 → ⊥) → pageOf a ≡ pageOf b → ⊥
   other-length s p q e = omega (arith, page-length a s p, refused-length b q, ap length e)
 
@@ -47,5 +50,6 @@ distinct =
       by-r = same-r;
       r-alone = same-page;
       by-number = same-number;
+      number-alone = same-line;
       apart = other-length;
     }

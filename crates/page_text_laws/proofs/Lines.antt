@@ -57,7 +57,10 @@ module _ (words : ℕ → ℤ) (fit : (j : ℕ) → SFits w32 (words j)) where
   line-is =
       record {
         long = line-length;
-        printed = λ k h. ap isPrinted (before-feed k h) ∙ printed-at (joined 16 fields) (printed-joined 16 fields (λ j. printed-field (words j))) k (rw row h);
+        characters =
+            λ k h.
+            ap isPrinted (before-feed k h)
+            ∙ printed-at (joined 16 fields) (printed-joined 16 fields (λ j. printed-field (words j))) k (rw row h);
         ends = ap isDigit (before-feed 191 (omega arith) ∙ last) ∙ field-ends (words 15) (fit 15);
         feed = getD-at (joined 16 fields) lineFeed [] 0 192 row;
       }

@@ -38,9 +38,9 @@ pub uncut : Uncut
 uncut =
     record {
       columns = field-length;
-      characters = decimal-length;
-      apart = first;
-      printed = field-printed;
+      eleven = decimal-length;
+      blank-first = first;
+      characters = field-printed;
       ends = field-ends;
       read-back = field-read;
     }

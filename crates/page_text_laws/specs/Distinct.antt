@@ -15,4 +15,6 @@ pub record Distinct : Type 0 where
   -- and nothing of Q shows
   pub r-alone : (a b : List ℕ) → recordRefusal a ≡ 0 → recordRefusal b ≡ 0 → SameR a b → pageOf a ≡ pageOf b
   pub by-number : (a b : List ℕ) → (recordRefusal a ≡ 0 → ⊥) → (recordRefusal b ≡ 0 → ⊥) → pageOf a ≡ pageOf b → recordRefusal a ≡ recordRefusal b
+  -- and nothing else of a refused record shows
+  pub number-alone : (a b : List ℕ) → (recordRefusal a ≡ 0 → ⊥) → recordRefusal a ≡ recordRefusal b → pageOf a ≡ pageOf b
   pub apart : (a b : List ℕ) → Bytes a → recordRefusal a ≡ 0 → (recordRefusal b ≡ 0 → ⊥) → pageOf a ≡ pageOf b → ⊥

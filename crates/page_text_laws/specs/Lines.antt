@@ -1,4 +1,4 @@
--- Document 02, U8: "16 lines of 16 words", "no blank at the line's end", "Each line is 192 characters and a line feed", and that of a refused record.
+-- Document 02, U8: "16 lines of 16 words", "no blank at the line's end", "Each line is 192 characters and a line feed", and the line of a refused record.
 -- Assumes nothing.
 use mathlib.Core.Path.{_≡_}
 use mathlib.Core.Bool.{true}
@@ -16,7 +16,7 @@ use Rattle.page_text_laws.specs.Reading.{lineAt, columnsAt, isDigit, isP
 -- 192 characters, blanks, minus signs and digits, of which the last is a digit, and a line feed
 pub record Line (line : List ℕ) : Type 0 where
   pub long : length line ≡ 193
-  pub printed : (k : ℕ) → k < 192 → isPrinted (getD line k 0) ≡ true
+  pub characters : (k : ℕ) → k < 192 → isPrinted (getD line k 0) ≡ true
   pub ends : isDigit (getD line 191 0) ≡ true
   pub feed : getD line 192 0 ≡ lineFeed
 

@@ -31,8 +31,8 @@ AllPrinted [] = Unit {0}
 AllPrinted (p ∷ ps) = Prints p × AllPrinted ps
 
 -- words (0, 0) to (0, 3) of R are 5, the least, the greatest and -1, word (15, 15) is -10, and all others are 0; Q has the bytes q
-unfoldable pub extremes : List ℕ → List ℕ
-extremes q =
+unfoldable pub fiveWords : List ℕ → List ℕ
+fiveWords q =
     2 ∷ 0 ∷ 0 ∷ 0 ∷ 5 ∷ 128 ∷ 0 ∷ 0 ∷ 0 ∷ 127 ∷ 255 ∷ 255 ∷ 255 ∷ 255 ∷ 255 ∷ 255 ∷ 255 ∷ replicate 1004 0
     ++ 255 ∷ 255 ∷ 255 ∷ 246 ∷ q
 
@@ -51,9 +51,9 @@ printings =
     ∷ prints (pos 2147483647) 2 (50 ∷ 49 ∷ 52 ∷ 55 ∷ 52 ∷ 56 ∷ 51 ∷ 54 ∷ 52 ∷ 55 ∷ [])
     ∷ prints (negsuc 2147483647) 1 (45 ∷ 50 ∷ 49 ∷ 52 ∷ 55 ∷ 52 ∷ 56 ∷ 51 ∷ 54 ∷ 52 ∷ 56 ∷ [])
     -- R row by row: word (0, 1) stands in line 0, and word (1, 0) in line 1
-    ∷ shows (extremes (replicate 1024 1)) 0 1 1 (45 ∷ 50 ∷ 49 ∷ 52 ∷ 55 ∷ 52 ∷ 56 ∷ 51 ∷ 54 ∷ 52 ∷ 56 ∷ [])
-    ∷ shows (extremes (replicate 1024 1)) 1 0 11 (48 ∷ [])
-    ∷ shows (extremes (replicate 1024 1)) 15 15 9 (45 ∷ 49 ∷ 48 ∷ [])
+    ∷ shows (fiveWords (replicate 1024 1)) 0 1 1 (45 ∷ 50 ∷ 49 ∷ 52 ∷ 55 ∷ 52 ∷ 56 ∷ 51 ∷ 54 ∷ 52 ∷ 56 ∷ [])
+    ∷ shows (fiveWords (replicate 1024 1)) 1 0 11 (48 ∷ [])
+    ∷ shows (fiveWords (replicate 1024 1)) 15 15 9 (45 ∷ 49 ∷ 48 ∷ [])
     -- 1: no byte, and another kind, too short besides
     ∷ refuses [] 11 (49 ∷ 10 ∷ [])
     ∷ refuses (1 ∷ replicate 256 0) 11 (49 ∷ 10 ∷ [])
@@ -65,7 +65,7 @@ printings =
     ∷ refuses (2 ∷ 128 ∷ replicate 2047 0) 11 (56 ∷ 10 ∷ [])
     ∷ []
 
-pub printings-hold : AllPrinted printings
-unfolding printings extremes digits decimal field joined lineOf pageOfR refusalLine pageOf headerTest recordWord recordR isFinishedAt isFinished allBelow recordRefusal
-printings-hold =
+pub printed : AllPrinted printings
+unfolding printings fiveWords digits decimal field joined lineOf pageOfR refusalLine pageOf headerTest recordWord recordR isFinishedAt isFinished allBelow recordRefusal
+printed =
     (refl, (refl, (refl, (refl, (refl, (refl, (refl, (refl, (refl, (refl, (refl, (refl, (refl, (refl, (refl, (refl, (refl, (refl, (refl, tt)))))))))))))))))))

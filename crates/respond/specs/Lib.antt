@@ -1,2 +1,2 @@
--- What the program writes.
+-- What the program `qr` writes.
 pub mod Response

@@ -1,4 +1,4 @@
-// What the program makes of its input, on slices: Whole, and the result record or the refusal record.
+// What the program `qr` makes of its input, on slices: Whole, and the result record or the refusal record.
 ghost use mathlib.Core.Path.{_≡_};
 ghost use mathlib.Core.List.{_++_};
 ghost use Prim.Native.Nat.{_≤_};

@@ -1,12 +1,12 @@
 -- Document 01, "Tree order": which rows a stage pairs and in which order, the whole schedule in closed form, 120 rotations and 49 stages, and in each
 -- column the stages end with its first row alone. That the constant table of the code holds the schedule is the contract of `table`. Assumes nothing.
 use mathlib.Core.Path.{_≡_, refl}
-use mathlib.Core.List.{List, [], _∷_, _++_}
+use mathlib.Core.List.{List, [], _∷_}
 use mathlib.Core.Bool.{true, _&&_, cond}
-use Prim.Native.Nat.{ℕ, zero, suc, _+_, _*_, _/_, _^_, _<_}
+use Prim.Native.Nat.{ℕ, _+_, _*_, _/_, _^_, _<_}
 use lib.Dec.{eqb, ltb}
 use lib.ListN.{length, getD}
-use Rattle.lists.specs.Lists.{allBelow}
+use Rattle.lists.specs.Lists.{allBelow, joined}
 use Rattle.schedule.specs.declared.Rotation.{Rotation}
 use Rattle.schedule.specs.Schedule.{rotationCount, stageRotations, survivors, stages, upFrom, columnStages, stagesRotations, columnsRotations, columnsStages, schedule, scheduleStages, noRotation}
 
@@ -30,11 +30,6 @@ abbrev pub StandingCount : Type 0
 StandingCount = (rows : List ℕ) → length (survivors rows) ≡ (length rows + 1) / 2
 
 -- ---- the whole schedule
-
--- f 0, f 1, .., f (n - 1), one after the other
-unfoldable pub joined : ℕ → (ℕ → List Rotation) → List Rotation
-joined zero f = []
-joined (suc n) f = joined n f ++ f n
 
 -- pair m of stage s in column j: the rows that stand are 2^s apart, and every second of them is an upper one. There is none where the lower row would be
 -- past row 15

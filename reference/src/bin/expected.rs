@@ -15,7 +15,7 @@ use std::path::Path;
 use std::process::ExitCode;
 
 use reference::listing::listing;
-use reference::page::{page, Sample};
+use reference::page::{page, PageSample};
 use reference::program::respond;
 
 const USAGE: &str = "usage: expected cases | expected whole FILE | expected page FILE | \
@@ -46,8 +46,8 @@ fn expected() -> Result<Vec<u8>, String> {
     }
 }
 
-fn sample(name: &OsStr) -> Result<Sample, String> {
-    let mut samples = Sample::ALL.into_iter();
+fn sample(name: &OsStr) -> Result<PageSample, String> {
+    let mut samples = PageSample::ALL.into_iter();
     let sample = samples.find(|sample| name == sample.name());
     sample.ok_or_else(|| format!("{}: no such sample", Path::new(name).display()))
 }

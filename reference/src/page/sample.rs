@@ -10,7 +10,7 @@ use crate::records::{parse_result, write_result, MATRIX_RECORD, RESULT_RECORD};
 const MATRIX: &[u8; MATRIX_RECORD] = include_bytes!("../../../examples/records/hermitian.bin");
 
 #[derive(Debug, Clone, Copy, PartialEq, Eq)]
-pub enum Sample {
+pub enum PageSample {
     /// The result of the sample matrix.
     Hermitian,
     /// Extreme words wherever a finished R may have them.
@@ -31,31 +31,31 @@ pub enum Sample {
     NegativeDiagonal,
 }
 
-impl Sample {
-    pub const ALL: [Sample; 9] = [
-        Sample::Hermitian,
-        Sample::Extremes,
-        Sample::Zeros,
-        Sample::Empty,
-        Sample::Matrix,
-        Sample::Short,
-        Sample::Long,
-        Sample::UnderDiagonal,
-        Sample::NegativeDiagonal,
+impl PageSample {
+    pub const ALL: [PageSample; 9] = [
+        PageSample::Hermitian,
+        PageSample::Extremes,
+        PageSample::Zeros,
+        PageSample::Empty,
+        PageSample::Matrix,
+        PageSample::Short,
+        PageSample::Long,
+        PageSample::UnderDiagonal,
+        PageSample::NegativeDiagonal,
     ];
 
     /// The name of its files.
     pub fn name(self) -> &'static str {
         match self {
-            Sample::Hermitian => "hermitian",
-            Sample::Extremes => "extremes",
-            Sample::Zeros => "zeros",
-            Sample::Empty => "empty",
-            Sample::Matrix => "matrix",
-            Sample::Short => "short",
-            Sample::Long => "long",
-            Sample::UnderDiagonal => "under-diagonal",
-            Sample::NegativeDiagonal => "negative-diagonal",
+            PageSample::Hermitian => "hermitian",
+            PageSample::Extremes => "extremes",
+            PageSample::Zeros => "zeros",
+            PageSample::Empty => "empty",
+            PageSample::Matrix => "matrix",
+            PageSample::Short => "short",
+            PageSample::Long => "long",
+            PageSample::UnderDiagonal => "under-diagonal",
+            PageSample::NegativeDiagonal => "negative-diagonal",
         }
     }
 
@@ -63,15 +63,15 @@ impl Sample {
     pub fn bytes(self) -> Vec<u8> {
         let result = respond(MATRIX);
         match self {
-            Sample::Hermitian => result,
-            Sample::Extremes => extremes(),
-            Sample::Zeros => write_result(&WorkArea::from_words(&[0; AREA_WORDS])).to_vec(),
-            Sample::Empty => Vec::new(),
-            Sample::Matrix => MATRIX.to_vec(),
-            Sample::Short => result[..RESULT_RECORD - 1].to_vec(),
-            Sample::Long => [result, vec![0]].concat(),
-            Sample::UnderDiagonal => with_word(&result, (REAL_SIZE - 1, REAL_SIZE - 2), 1),
-            Sample::NegativeDiagonal => with_word(&result, (REAL_SIZE - 2, REAL_SIZE - 2), -1),
+            PageSample::Hermitian => result,
+            PageSample::Extremes => extremes(),
+            PageSample::Zeros => write_result(&WorkArea::from_words(&[0; AREA_WORDS])).to_vec(),
+            PageSample::Empty => Vec::new(),
+            PageSample::Matrix => MATRIX.to_vec(),
+            PageSample::Short => result[..RESULT_RECORD - 1].to_vec(),
+            PageSample::Long => [result, vec![0]].concat(),
+            PageSample::UnderDiagonal => with_word(&result, (REAL_SIZE - 1, REAL_SIZE - 2), 1),
+            PageSample::NegativeDiagonal => with_word(&result, (REAL_SIZE - 2, REAL_SIZE - 2), -1),
         }
     }
 }
@@ -121,12 +121,12 @@ mod tests {
 
     #[test]
     fn the_samples_are_accepted_or_refused_as_they_say() {
-        for sample in Sample::ALL {
+        for sample in PageSample::ALL {
             let number = match sample {
-                Sample::Hermitian | Sample::Extremes | Sample::Zeros => 0,
-                Sample::Empty | Sample::Matrix => 1,
-                Sample::Short | Sample::Long => 2,
-                Sample::UnderDiagonal | Sample::NegativeDiagonal => 8,
+                PageSample::Hermitian | PageSample::Extremes | PageSample::Zeros => 0,
+                PageSample::Empty | PageSample::Matrix => 1,
+                PageSample::Short | PageSample::Long => 2,
+                PageSample::UnderDiagonal | PageSample::NegativeDiagonal => 8,
             };
             let page = page(&sample.bytes());
             if number == 0 {
@@ -152,7 +152,7 @@ mod tests {
 
     #[test]
     fn every_extreme_word_stands_in_the_sample() {
-        let area = parse_result(&Sample::Extremes.bytes()).unwrap();
+        let area = parse_result(&PageSample::Extremes.bytes()).unwrap();
         let above = (0..REAL_SIZE).flat_map(|i| (i + 1..REAL_SIZE).map(move |j| (i, j)));
         let above: Vec<i32> = above.map(|(i, j)| area.r(i, j)).collect();
         assert!(extreme_words().iter().all(|word| above.contains(word)));

@@ -11,3 +11,11 @@ mod run;
 #[allow(dead_code)]
 #[path = "../common/words.rs"]
 mod words;
+
+use run::{PAGE, QR};
+
+#[test]
+fn output_that_cannot_be_written_is_reported() {
+    assert_eq!(QR.complaint(), "qr: the record could not be written\n");
+    assert_eq!(PAGE.complaint(), "page: the page could not be written\n");
+}

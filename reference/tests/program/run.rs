@@ -1,6 +1,7 @@
 //! A program of the product, started with an input.
 
 use std::env;
+use std::fs::File;
 use std::io::{ErrorKind, Read, Write};
 use std::os::fd::OwnedFd;
 use std::os::unix::net::UnixStream;
@@ -44,10 +45,9 @@ impl Program {
         path
     }
 
-    fn start(self, input: impl Into<Stdio>) -> Child {
+    fn start(self, input: impl Into<Stdio>, output: impl Into<Stdio>) -> Child {
         let mut command = Command::new(self.path());
-        command.stdin(input).stdout(Stdio::piped());
-        command.stderr(Stdio::piped());
+        command.stdin(input).stdout(output).stderr(Stdio::piped());
         command.spawn().expect("the program can be started")
     }
 
@@ -57,7 +57,7 @@ impl Program {
         pieces: impl IntoIterator<Item = &'a [u8]>,
         pause: Duration,
     ) -> Vec<u8> {
-        let mut child = self.start(Stdio::piped());
+        let mut child = self.start(Stdio::piped(), Stdio::piped());
         let mut input = child.stdin.take().expect("the input is a pipe");
         for piece in pieces {
             match input.write_all(piece) {
@@ -79,13 +79,23 @@ impl Program {
     /// are found at the program's end of a connection, which is held open here, too.
     pub fn output_and_rest(self, input: &[u8]) -> (Vec<u8>, usize) {
         let (mut near, mut far) = UnixStream::pair().expect("there can be a connection");
-        let child = self.start(OwnedFd::from(far.try_clone().expect("it can be shared")));
+        let end = OwnedFd::from(far.try_clone().expect("it can be shared"));
+        let child = self.start(end, Stdio::piped());
         near.write_all(input).expect("the connection takes it");
         drop(near);
         let written = written(child);
         let mut rest = Vec::new();
         far.read_to_end(&mut rest).expect("the rest can be read");
         (written, rest.len())
+    }
+
+    /// What the program says where nothing of its output can be written.
+    pub fn complaint(self) -> String {
+        let full = File::options().write(true).open("/dev/full");
+        let child = self.start(Stdio::null(), full.expect("there is a full device"));
+        let ended = child.wait_with_output().expect("the program ends");
+        assert!(ended.status.success(), "{ended:?}");
+        String::from_utf8(ended.stderr).expect("it is text")
     }
 }
 

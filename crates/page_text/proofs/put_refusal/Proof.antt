@@ -43,8 +43,9 @@ returns c =
     let w = c .before .before .put-word in
     let s = c .before .before .before .before .before in
     let z : toZ w32 (s .args .number) ≡ pos (s .args .number) = toZ-pos w32 (omega arith) in
+    let size = field-length (pos (s .args .number)) (record { sfits = omega arith }) in
     ap (λ (f : List ℕ). set (f ++ drop 12 (s .args .output .now)) 12 lineFeed) (w .ensures ∙ ap field z)
-    ∙ put-one (field (pos (s .args .number))) (s .args .output .now) 12 lineFeed (field-length (pos (s .args .number)) (record { sfits = omega arith })) (s .pre)
+    ∙ put-one (field (pos (s .args .number))) (s .args .output .now) 12 lineFeed size (s .pre)
 
 pub put-refusal-spec : {M : Type 1} → statement M
 put-refusal-spec =

@@ -65,7 +65,8 @@ made : (c : tie.After-loop Inv-loop μ-loop) → c .before .before .magnitude .r
 made c = c .before .before .magnitude .ensures ∙ ap natAbs (toZ-ofZ (start c .fits .w))
 
 -- after the loop one digit is left
-spelled : (c : tie.After-loop Inv-loop μ-loop) → Spelled (c .before .before .magnitude .result) (c .before .loop .at - 1) (set (c .before .loop .columns) (c .before .loop .at - 1) (lastDigit (c .before .loop .n)))
+spelled : (c : tie.After-loop Inv-loop μ-loop) → let l = c .before .loop in
+    Spelled (c .before .before .magnitude .result) (l .at - 1) (set (l .columns) (l .at - 1) (lastDigit (l .n)))
 spelled c = spell-last (c .before .loop .inv) _ (omega arith) (omega arith)
 
 sub-columns : tie.Need-sub-columns Inv-loop μ-loop

@@ -9,7 +9,7 @@ use crate::run::PAGE;
 
 const LONGEST: usize = 2_100;
 
-/// First bytes of no result record: those of the other records, and some with a bit changed.
+/// First bytes of no result record: those of the other records, and others.
 const OTHER_KINDS: [u8; 8] = [0, 1, 3, 4, 6, 0x20, 0x82, 0xFF];
 
 /// Lengths around that of the record and what the program reads, and far beyond.

@@ -2,7 +2,7 @@
 
 use std::time::Duration;
 
-use reference::page::{page, Sample};
+use reference::page::{page, PageSample};
 use reference::records::{RESULT_KIND, RESULT_RECORD};
 
 use super::inputs::long_input;
@@ -69,7 +69,7 @@ fn a_byte_that_follows_a_result_late() {
 
 #[test]
 fn samples_in_pieces() {
-    for sample in Sample::ALL {
+    for sample in PageSample::ALL {
         require_by(&[31, 256, 1_025], &sample.bytes());
     }
 }

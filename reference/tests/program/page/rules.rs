@@ -2,7 +2,7 @@
 //! another page, the comparison tells the two apart.
 
 use reference::matrix::REAL_SIZE;
-use reference::page::{page, Sample};
+use reference::page::{page, PageSample};
 use reference::records::RESULT_RECORD;
 
 use super::inputs::{q_words, r_words};
@@ -180,8 +180,8 @@ impl Noticed {
 
 #[test]
 fn a_page_of_another_layout_is_not_read() {
-    let is_read = |rule: Rule, sample: Sample| read(&rule.page(&sample.bytes())).is_ok();
-    for sample in Sample::ALL {
+    let is_read = |rule: Rule, sample: PageSample| read(&rule.page(&sample.bytes())).is_ok();
+    for sample in PageSample::ALL {
         assert!(is_read(Rule::Stated, sample), "{sample:?}");
     }
     for rule in [
@@ -196,9 +196,9 @@ fn a_page_of_another_layout_is_not_read() {
         Rule::BlankForZero,
         Rule::Unsigned,
     ] {
-        assert!(!is_read(rule, Sample::Extremes), "{rule:?}");
+        assert!(!is_read(rule, PageSample::Extremes), "{rule:?}");
     }
     for rule in [Rule::NumberAlone, Rule::RefusalRecord] {
-        assert!(!is_read(rule, Sample::Empty), "{rule:?}");
+        assert!(!is_read(rule, PageSample::Empty), "{rule:?}");
     }
 }

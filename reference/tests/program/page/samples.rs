@@ -3,13 +3,13 @@
 use std::fs;
 use std::path::Path;
 
-use reference::page::Sample;
+use reference::page::PageSample;
 
 use super::compared::Compared;
 use super::rules::Noticed;
 use crate::run::PAGE;
 
-fn stored(sample: Sample, extension: &str) -> Vec<u8> {
+fn stored(sample: PageSample, extension: &str) -> Vec<u8> {
     let folder = Path::new(env!("CARGO_MANIFEST_DIR")).join("../examples/results");
     let path = folder.join(sample.name()).with_extension(extension);
     fs::read(&path).unwrap_or_else(|error| panic!("{}: {error}", path.display()))
@@ -20,7 +20,7 @@ fn stored(sample: Sample, extension: &str) -> Vec<u8> {
 fn the_program_writes_the_stored_pages() {
     let mut compared = Compared::default();
     let mut noticed = Noticed::default();
-    for sample in Sample::ALL {
+    for sample in PageSample::ALL {
         let input = stored(sample, "bin");
         let page = stored(sample, "txt");
         assert!(PAGE.output_at_once(&input) == page, "{sample:?}");

@@ -16,9 +16,10 @@ makes the program wrong that the promise is about. Were the promise taken away, 
 no longer be refused, and the gate would fail; a change anywhere else in its text changes the sum that stands beside it.
 
 This page is made from the tree and `docs/demands.txt` by `make demands`, and `make check-docs` compares it, so no crate, theorem, row, call or edit
-can go unseen. The sum of a theorem is that of its text, comments left out, and of all that it names in its crate; the sum of a clause is that of the
-clause. What they name of other crates is not in it: those definitions are what a reader believes, and `docs/TRUST.md` says so. The rows of a table
-share one wrong program, and so do the clauses of `respond`; `errors:` in its file says how many errors the log has to have. What the page asks for:
+can go unseen. The sum of a theorem is that of its text, comments left out, and of all that it names in its crate; the sum of a clause is that of
+the clause. What they name of other crates is not in it: those definitions are what a reader believes, and `docs/TRUST.md` says so. The rows of a
+table share one wrong program, and so do the clauses of `respond` and those of `page_text`; `errors:` in its file says how many errors the log has
+to have. What the page asks for:
 
 - of each theorem that `docs/demands.txt` cites: of a record, an edit in each field; of a definition, an edit in its text; of a law, an edit in its
   signature or in a definition that this names, by which the law itself falls (`law:`)
