@@ -36,7 +36,8 @@ echo
 "$record" weights "$result" "$targets"
 echo
 echo '5. The page for the fitter, by the proved program page: R in 16 lines of 16 words, 12 columns each.'
-echo '   A whole line has 192 characters; here are the first eight words of each.'
+echo '   A word is 8,192 times R in steps, as 2 shows it. A line has 192 characters: cut keeps eight'
+echo '   of its words, and without cut all are printed.'
 echo "   $ $page < $result | cut -c 1-96"
 echo
 "$page" <"$result" | cut -c 1-96

@@ -1,4 +1,4 @@
--- Lists by position, and tests on every number below a bound. Assumes nothing.
+-- Lists by position, lists one behind another, and tests on every number below a bound. Assumes nothing.
 use Prim.Native.Nat.{ℕ, zero, suc, _+_}
 use mathlib.Core.Bool.{Bool, true, _&&_}
 use mathlib.Core.List.{List, [], _∷_, _++_}

@@ -1,4 +1,4 @@
--- Document 01: the program does Whole, and writes the result record, or the refusal record. The workspace of 512 words and the buffer of 2,049
+-- Document 01: the program `qr` does Whole, and writes the result record, or the refusal record. The workspace of 512 words and the buffer of 2,049
 -- bytes are its own. Assumes nothing.
 use mathlib.Core.Path.{_≡_, refl}
 use mathlib.Core.List.{List, [], _∷_}
