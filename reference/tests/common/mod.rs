@@ -7,6 +7,7 @@
 pub mod desk;
 mod engine;
 pub mod heard;
+pub mod noticed;
 pub mod snapshots;
 pub mod sums;
 mod twin;

@@ -5,7 +5,7 @@ use reference::desk::DeskReply;
 use crate::alone::Alone;
 use crate::common::desk::{BothDesk, Call, Seen};
 use crate::common::Case;
-use crate::rules::Noticed;
+use crate::rules::OtherAnswers;
 use crate::steps::{Areas, Step, Steps};
 
 /// Histories in which each sector has its own area, and such in which any area is lent.
@@ -51,7 +51,7 @@ impl Book {
 }
 
 /// Makes the calls of one history, and holds each to the laws and to the other rules.
-fn make_history(case: Case, areas: Areas, seen: &mut Seen, noticed: &mut Noticed) {
+fn make_history(case: Case, areas: Areas, seen: &mut Seen, noticed: &mut OtherAnswers) {
     let mut random = case.random();
     let served = random.choose(&[1, 2, 3, 5, 8]);
     let steps = Steps { areas, served };
@@ -67,7 +67,7 @@ fn make_history(case: Case, areas: Areas, seen: &mut Seen, noticed: &mut Noticed
 }
 
 fn make_histories(test: &'static str, seed: u64, areas: Areas, histories: u64) {
-    let (mut seen, mut noticed) = (Seen::default(), Noticed::default());
+    let (mut seen, mut noticed) = (Seen::default(), OtherAnswers::NONE);
     for number in 0..histories {
         let case = Case::of_words(test, seed, number);
         make_history(case, areas, &mut seen, &mut noticed);

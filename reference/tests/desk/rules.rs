@@ -6,6 +6,7 @@ use reference::desk::{Desk, DeskReply, ROUND_TURNS};
 use reference::job::Job;
 
 use crate::common::desk::Call;
+use crate::common::noticed::Noticed;
 use crate::steps::Step;
 
 #[derive(Debug, Clone, Copy, PartialEq, Eq)]
@@ -129,24 +130,18 @@ fn job(desk: &Desk, call: &Call) -> Option<Job> {
 }
 
 /// In how many calls each other rule would have given another answer.
-#[derive(Debug, Default)]
-pub struct Noticed {
-    differing: [u64; Rule::ALL.len()],
-}
+#[derive(Debug)]
+pub struct OtherAnswers(Noticed<Rule, { Rule::ALL.len() }>);
 
-impl Noticed {
+impl OtherAnswers {
+    pub const NONE: OtherAnswers = OtherAnswers(Noticed::none(Rule::ALL));
+
     pub fn look(&mut self, desk: &Desk, step: &Step, stated: &DeskReply) {
-        for (count, rule) in self.differing.iter_mut().zip(Rule::ALL) {
-            *count += u64::from(rule.reply(desk, step, stated) != *stated);
-        }
+        let differs = |rule: Rule| rule.reply(desk, step, stated) != *stated;
+        self.0.look(differs);
     }
 
-    /// Every other rule has shown itself.
     pub fn print_and_require_all_rules(&self, test: &str) {
-        let counts = self.differing.iter().zip(Rule::ALL);
-        let counts: Vec<String> = counts.map(|(n, rule)| format!("{rule:?} {n}")).collect();
-        println!("other answers by other rules: {}", counts.join(", "));
-        let all = self.differing.iter().all(|count| *count > 0);
-        assert!(all, "{test}: a rule was not told apart");
+        self.0.print_and_require_all_rules(test, "answers");
     }
 }

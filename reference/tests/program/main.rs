@@ -7,6 +7,8 @@ mod page;
 mod qr;
 mod run;
 
+#[path = "../common/noticed.rs"]
+mod noticed;
 // Of these the page needs only the words.
 #[allow(dead_code)]
 #[path = "../common/words.rs"]

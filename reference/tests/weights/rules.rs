@@ -6,6 +6,7 @@ use reference::matrix::{ANTENNAS, REAL_SIZE};
 use reference::records::{parse_result, write_result};
 use reference::weights::WeightsReply;
 
+use crate::common::noticed::Noticed;
 use crate::common::weights::{bits, Seen, Targets, NO_TARGET};
 use crate::common::Case;
 use crate::records::triangle;
@@ -108,13 +109,13 @@ impl Rule {
 /// The calls of a test, and in how many of them each other rule would give other bits.
 pub struct Compared {
     pub seen: Seen,
-    differing: [u64; Rule::OTHERS.len()],
+    noticed: Noticed<Rule, { Rule::OTHERS.len() }>,
 }
 
 impl Compared {
     pub const NONE: Compared = Compared {
         seen: Seen::NONE,
-        differing: [0; Rule::OTHERS.len()],
+        noticed: Noticed::none(Rule::OTHERS),
     };
 
     pub fn weights(&mut self, case: &Case, record: &[u8], targets: &Targets) -> WeightsReply {
@@ -127,20 +128,14 @@ impl Compared {
         for rule in Rule::SAME {
             assert!(!differs(rule), "{rule:?} differs\n{case}, {targets:?}");
         }
-        for (count, rule) in self.differing.iter_mut().zip(Rule::OTHERS) {
-            *count += u64::from(differs(rule));
-        }
+        self.noticed.look(differs);
         reply
     }
 
     /// Prints what the calls came to. Every other rule has shown itself in one of them.
     pub fn print_and_require_all_rules(&self, test: &str) {
         self.seen.print(test);
-        let counts = self.differing.iter().zip(Rule::OTHERS);
-        let counts: Vec<String> = counts.map(|(n, rule)| format!("{rule:?} {n}")).collect();
-        println!("other bits by other rules: {}", counts.join(", "));
-        let all = self.differing.iter().all(|count| *count > 0);
-        assert!(all, "{test}: a rule was not told apart");
+        self.noticed.print_and_require_all_rules(test, "bits");
     }
 }
 

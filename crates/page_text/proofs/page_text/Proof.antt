@@ -7,6 +7,7 @@ use borrow.Author.Needs.{needs}
 use lib.ListN.{length, drop, drop-of-length-le}
 use denote.Ref.{now}
 use Rattle.result_record.proofs.Accepted.{record-accepted}
+use Rattle.page_text.specs.Page.{pageOf}
 use Rattle.page_text.proofs.Page.{page-accepted, page-refused, refusal-length}
 use Rattle.page_text.proofs.page_text.Statement.{statement}
 use Rattle.page_text.proofs.page_text.Tie as tie
@@ -45,8 +46,10 @@ returns-2 c =
     let size : length (now (a .output)) ≡ 3088 = search needs in
     let is = c .put-page .ensures ∙ sym (page-accepted (now (a .input)) (sym (t .before .record-refusal .ensures) ∙ t .if1 .left)) in
     let long = c .put-page .kept .1 .0 ∙ size in
+    let page = pageOf (now (a .input)) in
     let rest : drop 3088 (now (a .output)) ≡ [] = drop-of-length-le (now (a .output)) {i = 3088} (omega arith) in
-    (sym (ap length (sym is) ∙ long), (is ∙ sym (rw (rest, append-nil)), omega (arith, long)))
+    let whole = is ∙ sym (append-nil page) ∙ ap (λ (l : List ℕ). page ++ l) (sym rest) in
+    (sym (ap length (sym is) ∙ long), (whole, omega (arith, long)))
 
 pub page-text-spec : {M : Type 1} → statement M
 page-text-spec =

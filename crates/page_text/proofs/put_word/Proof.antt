@@ -25,7 +25,8 @@ magnitude-requires c κs = tt
 loop-holds : tie.Need-loop-holds Inv-loop μ-loop
 loop-holds c =
     let b = c .before .before .before in
-    spell-none _ _ (omega (arith, c .magnitude .ok)) (b .put-blanks .ensures ∙ ap (λ (n : ℕ). replicate n blank) (b .before .before .before .pre))
+    let blanks = b .put-blanks .ensures ∙ ap (λ (n : ℕ). replicate n blank) (b .before .before .before .pre) in
+    spell-none (c .magnitude .result) _ (omega (arith, c .magnitude .ok)) blanks
 
 sub-at : tie.Need-sub-at Inv-loop μ-loop
 sub-at c = omega arith

@@ -6,7 +6,7 @@ use reference::records::write_result;
 
 use super::compared::Compared;
 use super::inputs::{any_finished, finished};
-use super::rules::Noticed;
+use super::rules::OtherPages;
 use crate::words::Words;
 
 /// Records of each way to draw R and Q.
@@ -39,7 +39,7 @@ fn damage(record: &mut Vec<u8>, random: &mut Random) {
 #[test]
 fn arbitrary_words() {
     let mut compared = Compared::default();
-    let mut noticed = Noticed::default();
+    let mut noticed = OtherPages::NONE;
     let ways = Words::ALL.into_iter();
     for (way, ways) in ways.flat_map(|r| Words::ALL.map(|q| [r, q])).enumerate() {
         for case in 0..RECORDS {

@@ -7,6 +7,7 @@ use reference::records::RESULT_RECORD;
 
 use super::inputs::{q_words, r_words};
 use super::reading::read;
+use crate::noticed::Noticed;
 
 #[derive(Debug, Clone, Copy, PartialEq, Eq)]
 enum Rule {
@@ -153,28 +154,21 @@ fn stated_number(input: &[u8]) -> i32 {
     says.expect("a page can be read").number()
 }
 
-/// In how many pages each other rule would have shown.
-#[derive(Debug, Default)]
-pub struct Noticed {
-    differing: [u64; Rule::OTHERS.len()],
-}
+/// For how many inputs each other rule would have given another page.
+#[derive(Debug)]
+pub struct OtherPages(Noticed<Rule, { Rule::OTHERS.len() }>);
 
-impl Noticed {
+impl OtherPages {
+    pub const NONE: OtherPages = OtherPages(Noticed::none(Rule::OTHERS));
+
     pub fn look(&mut self, input: &[u8]) {
         let stated = page(input);
         assert!(Rule::Stated.page(input) == stated, "input {input:02X?}");
-        for (count, rule) in self.differing.iter_mut().zip(Rule::OTHERS) {
-            *count += u64::from(rule.page(input) != stated);
-        }
+        self.0.look(|rule| rule.page(input) != stated);
     }
 
-    /// Every other rule has shown itself.
     pub fn print_and_require_all_rules(&self, test: &str) {
-        let counts = self.differing.iter().zip(Rule::OTHERS);
-        let counts: Vec<String> = counts.map(|(n, rule)| format!("{rule:?} {n}")).collect();
-        println!("other pages by other rules: {}", counts.join(", "));
-        let all = self.differing.iter().all(|count| *count > 0);
-        assert!(all, "{test}: a rule was not told apart");
+        self.0.print_and_require_all_rules(test, "pages");
     }
 }
 

@@ -6,7 +6,7 @@ use std::path::Path;
 use reference::page::PageSample;
 
 use super::compared::Compared;
-use super::rules::Noticed;
+use super::rules::OtherPages;
 use crate::run::PAGE;
 
 fn stored(sample: PageSample, extension: &str) -> Vec<u8> {
@@ -19,7 +19,7 @@ fn stored(sample: PageSample, extension: &str) -> Vec<u8> {
 #[test]
 fn the_program_writes_the_stored_pages() {
     let mut compared = Compared::default();
-    let mut noticed = Noticed::default();
+    let mut noticed = OtherPages::NONE;
     for sample in PageSample::ALL {
         let input = stored(sample, "bin");
         let page = stored(sample, "txt");
