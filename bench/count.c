@@ -2,7 +2,8 @@
  * Calls whose instructions count.sh counts. With the argument full: MATRICES random matrices by Load, Run and Fetch, and as many
  * others by Whole; the weights of the latter for random targets, and SNAPSHOTS random snapshots added and the sums written after
  * each, by the engine and by the versions in C. With the argument half-empty or diagonal: MATRICES such matrices by Whole. With
- * the argument desk: as many Runs of request 0, by the engine's desk and by that in C.
+ * the argument single: MATRICES random matrices by Load and a Run of allowance 1 at each turn number. With the argument desk:
+ * MATRICES Runs of request 0, by the engine's desk and by that in C.
  */
 #include "covariance.h"
 #include "desk.h"
@@ -85,6 +86,24 @@ static int at_once(const uint8_t *record)
 {
     return hubqr_whole(record, HUBQR_MATRIX_RECORD_BYTES, area, HUBQR_AREA_WORDS, buffer, sizeof buffer).number
         == HUBQR_ACCEPTED;
+}
+
+/* Answers whether Load accepts random matrices and Run each of their turns by itself. */
+static int turn_by_turn(void)
+{
+    uint8_t record[HUBQR_MATRIX_RECORD_BYTES];
+    for (int k = 0; k < MATRICES; k++) {
+        draw_record(record);
+        struct hubqr_load_reply loaded = hubqr_load(record, HUBQR_MATRIX_RECORD_BYTES, area, HUBQR_AREA_WORDS);
+        struct hubqr_run_reply ran = {.number = loaded.number, .job = loaded.job};
+        while (ran.number == HUBQR_ACCEPTED && ran.job.turn < HUBQR_TURNS) {
+            ran = hubqr_run(ran.job, 1, area, HUBQR_AREA_WORDS);
+        }
+        if (ran.number != HUBQR_ACCEPTED) {
+            return 0;
+        }
+    }
+    return 1;
 }
 
 /* Answers whether the engine and the version in C accept the record that was written and answer the same weights. */
@@ -172,6 +191,9 @@ static int counted(const char *argument)
     }
     if (strcmp(argument, "half-empty") == 0) {
         return emptier(draw_half_empty);
+    }
+    if (strcmp(argument, "single") == 0) {
+        return turn_by_turn();
     }
     if (strcmp(argument, "desk") == 0) {
         return at_desks();

@@ -18,8 +18,8 @@ for version in covariance weights desk; do
 done
 cc -std=c11 -O2 -Wall -Wextra -Iinclude -DMATRICES=$matrices -DSNAPSHOTS=$snapshots -DVERSION=c \
     bench/count.c "$scratch/covariance.o" "$scratch/weights.o" "$scratch/desk.o" "$archive" -o "$scratch/count"
-# What callgrind counts of matrices of each kind, and at the desk, goes into a file of that name.
-for kind in full half-empty diagonal desk; do
+# What callgrind counts of matrices of each kind, of single turns and at the desk goes into a file of that name.
+for kind in full half-empty diagonal single desk; do
     valgrind --quiet --tool=callgrind --callgrind-out-file="$scratch/calls" "$scratch/count" $kind
     callgrind_annotate --inclusive=yes --threshold=100 "$scratch/calls" >"$scratch/$kind"
 done
@@ -61,6 +61,8 @@ awk -v matrices=$matrices -v snapshots=$snapshots -v style="${1:-plain}" '
         if (style == "--markdown") print "|---|--:|--:|"
         counted("Load", count["load"])
         counted("Run, allowance 120", count["run"])
+        counted("Run, allowance 1", count["run, single"] / 120)
+        counted("Run, allowance 0", count["run, desk"])
         counted("Fetch", count["fetch"])
         counted("Whole", count["whole"])
         counted("Whole less Run", count["whole"] - count["run"])
@@ -73,4 +75,5 @@ awk -v matrices=$matrices -v snapshots=$snapshots -v style="${1:-plain}" '
         compared("Writing the record", count["hubqr_write_matrix"], count["c_write_by_value"])
         compared("Weights", count["hubqr_weights"], count["c_weights"])
         compared("Desk, request 0", count["hubqr_desk_run"], count["c_desk_run"])
-    }' "$scratch/full" kind=', half-empty' "$scratch/half-empty" kind=', diagonal' "$scratch/diagonal" kind=', desk' "$scratch/desk"
+    }' "$scratch/full" kind=', half-empty' "$scratch/half-empty" kind=', diagonal' "$scratch/diagonal" \
+    kind=', single' "$scratch/single" kind=', desk' "$scratch/desk"

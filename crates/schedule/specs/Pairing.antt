@@ -1,14 +1,15 @@
 -- Document 01, "Tree order": which rows a stage pairs and in which order, the whole schedule in closed form, 120 rotations and 49 stages, and in each
--- column the stages end with its first row alone. That the constant table of the code holds the schedule is the contract of `table`. Assumes nothing.
+-- column the stages end with its first row alone. Document 02, U9: no number of it passes 15. That the constant table of the code holds the schedule is
+-- the contract of `table`. Assumes nothing.
 use mathlib.Core.Path.{_≡_, refl}
 use mathlib.Core.List.{List, [], _∷_}
 use mathlib.Core.Bool.{true, _&&_, cond}
-use Prim.Native.Nat.{ℕ, _+_, _*_, _/_, _^_, _<_}
+use Prim.Native.Nat.{ℕ, _+_, _*_, _/_, _^_, _<_, _≤_}
 use lib.Dec.{eqb, ltb}
 use lib.ListN.{length, getD}
 use Rattle.lists.specs.Lists.{allBelow, joined}
 use Rattle.schedule.specs.declared.Rotation.{Rotation}
-use Rattle.schedule.specs.Schedule.{rotationCount, stageRotations, survivors, stages, upFrom, columnStages, stagesRotations, columnsRotations, columnsStages, schedule, scheduleStages, noRotation}
+use Rattle.schedule.specs.Schedule.{rotationCount, stageRotations, survivors, stages, upFrom, columnStages, stagesRotations, columnsRotations, columnsStages, schedule, scheduleStages, noRotation, flat}
 
 -- ---- one stage, whichever rows stand
 
@@ -61,3 +62,7 @@ standing rows (stage ∷ rest) = standing (survivors stage) rest
 pub row-alone : allBelow 15 (λ j. eqb (length (standing [] (columnStages j))) 1 && eqb (getD (standing [] (columnStages j)) 0 16) j) ≡ true
 unfolding allBelow standing columnStages stages survivors upFrom
 row-alone = refl
+
+-- document 02, U9, "Columns and rows never pass 15": none of the 360 numbers does
+abbrev pub AtMost15 : Type 0
+AtMost15 = (k : ℕ) → getD (flat schedule) k 0 ≤ 15

@@ -1,4 +1,4 @@
-// The schedule (document 01's tree order): column, upper row and lower row of each of the 120 rotations, and the lookup of one.
+// The schedule (document 01's tree order): column, upper row and lower row of each of the 120 rotations, as bytes, and the lookup of one.
 ghost use mathlib.Core.Path.{_≡_};
 ghost use Prim.Native.Nat.{_<_};
 ghost use Rattle.schedule.specs.Schedule.{rotationCount, schedule, flat, rotationAt};
@@ -13,11 +13,11 @@ pub struct Rotation {
 // How many rotations there are.
 pub const COUNT: usize = 120;
 
-// Rotation n stands at 3 n, 3 n + 1 and 3 n + 2.
-pub type Table = [usize; 360];
+// Rotation n stands at 3 n, 3 n + 1 and 3 n + 2. No column and no row passes 15, so that a byte holds it.
+pub type Table = [u8; 360];
 
 const ROTATIONS: Table = [
-    0,
+    0, // rotation 0: its column
     0,
     1,
     0,
@@ -198,7 +198,7 @@ const ROTATIONS: Table = [
     14,
     15,
     4,
-    4,
+    4, // rotation 60: its upper row
     6,
     4,
     8,
@@ -376,7 +376,7 @@ const ROTATIONS: Table = [
     15,
     14,
     14,
-    15, // rotation 119
+    15, // rotation 119: its lower row
 ];
 
 // The table. Whoever looks up many rotations takes it once, since a constant is laid out anew wherever it is read.
@@ -386,15 +386,15 @@ pub fn table() -> Table
     ROTATIONS
 }
 
-// Rotation number n of the table.
+// Rotation number n of the table, its bytes made as wide as an index.
 pub fn rotation_at(table: &Table, n: usize) -> Rotation
     requires { ⌜ (now table ≡ flat schedule) × (n < rotationCount) ⌝ }
     ensures { λ r. ⌜ r ≡ rotationAt n ⌝ }
 {
     let at = 3 * n;
-    let column = table[at];
-    let upper = table[at + 1];
-    let lower = table[at + 2];
+    let column = table[at] as usize;
+    let upper = table[at + 1] as usize;
+    let lower = table[at + 2] as usize;
     Rotation {
         column,
         upper,

@@ -1,35 +1,48 @@
--- `rotation_at` meets its contract: the schedule's rotation stands at the three numbers. Assumes nothing.
+-- `rotation_at` meets its contract: the schedule's rotation stands at the three bytes, each of which fits an index. Assumes nothing.
+use mathlib.Core.Path.{_≡_}
+use mathlib.Core.List.{List}
+use Prim.Native.Nat.{ℕ}
+use native.Mathlib.Omega.{arith}
+use lib.ListN.{getD}
+use mir.Syntax.{w64}
+use mir.Val.{Fits}
 use borrow.Author.Needs.{needs}
+use Rattle.schedule.specs.Schedule.{schedule, flat}
 use Rattle.schedule.proofs.Flat.{read-rotation}
+use Rattle.schedule.proofs.Pairing.{at-most-15}
 use Rattle.schedule.proofs.rotation_at.Statement.{statement}
 use Rattle.schedule.proofs.rotation_at.Tie as tie
+
+-- a number of the schedule fits an index
+fits-index : (table : List ℕ) (k : ℕ) → table ≡ flat schedule → Fits w64 (getD table k 0)
+fits-index table k e = rw e (omega (arith, at-most-15 k))
 
 mul-at : tie.Need-mul-at
 mul-at c = search needs
 
-mul-column : tie.Need-mul-column
-mul-column c = search needs
-
 element-copy-out-column : tie.Need-element-copy-out-column
 element-copy-out-column c = search needs
+
+cast-column : tie.Need-cast-column
+cast-column c = fits-index _ _ (c .before .pre .0)
 
 add-upper : tie.Need-add-upper
 add-upper c = search needs
 
-mul-upper : tie.Need-mul-upper
-mul-upper c = search needs
-
 element-copy-out-upper : tie.Need-element-copy-out-upper
 element-copy-out-upper c = search needs
+
+cast-upper : tie.Need-cast-upper
+cast-upper c = fits-index _ _ (c .before .before .pre .0)
 
 add-lower : tie.Need-add-lower
 add-lower c = search needs
 
-mul-lower : tie.Need-mul-lower
-mul-lower c = search needs
-
 element-copy-out-lower : tie.Need-element-copy-out-lower
 element-copy-out-lower c = search needs
+
+cast-lower : tie.Need-cast-lower
+cast-lower c = fits-index _ _ (c .before .before .before .pre .0)
 
 returns : tie.Need-returns
 returns c =
@@ -41,12 +54,12 @@ rotation-at-spec =
     tie.close
     (tie.spec
     mul-at
-    mul-column
     element-copy-out-column
+    cast-column
     add-upper
-    mul-upper
     element-copy-out-upper
+    cast-upper
     add-lower
-    mul-lower
     element-copy-out-lower
+    cast-lower
     returns)

@@ -1,0 +1,135 @@
+/*
+ * How much stack each call takes: the bytes from the stack pointer at the call down to the lowest that it writes, its return
+ * address among them. What is handed over by value stands above the pointer and does not count. Each call is made on a stack of
+ * its own that is painted before. stack.sh compiles this so that the pointer stays where it is between note and the call.
+ */
+#include "hubqr.h"
+
+#include <stdio.h>
+#include <stdlib.h>
+#include <string.h>
+#include <ucontext.h>
+
+enum { STACK_BYTES = 1 << 16, PAINT = 0xa5 };
+
+static uint8_t stack[STACK_BYTES];
+static uint8_t *pointer;
+static ucontext_t host;
+
+static uint8_t record[HUBQR_MATRIX_RECORD_BYTES] = {HUBQR_KIND_MATRIX};
+static int32_t area[HUBQR_AREA_WORDS];
+static uint8_t result[HUBQR_RESULT_RECORD_BYTES];
+static struct hubqr_snapshot samples;
+static struct hubqr_sums sums;
+static struct hubqr_desk desk;
+static const struct hubqr_job begun = {0, 0}, finished = {HUBQR_TURNS, 0};
+
+/* What the calls answer, kept so that each is made. */
+static struct {
+    struct hubqr_load_reply load;
+    struct hubqr_run_reply run;
+    struct hubqr_read_reply read;
+    struct hubqr_whole_reply whole;
+    struct hubqr_add_reply add;
+    struct hubqr_weights_reply weights;
+    struct hubqr_desk_reply desk;
+    struct hubqr_desk_load_reply desk_load;
+    struct hubqr_desk_run_reply desk_run;
+    struct hubqr_desk_heard_reply desk_heard;
+    uint8_t number;
+} reply;
+
+static inline __attribute__((always_inline)) void note(void)
+{
+    __asm__ volatile("mov %%rsp, %0" : "=m"(pointer) : : "memory");
+}
+
+/* A function that makes one call and keeps its number. */
+#define CALL(name, call, answered) \
+    static void name(void)         \
+    {                              \
+        note();                    \
+        call;                      \
+        reply.number = answered;   \
+    }
+
+CALL(load, reply.load = hubqr_load(record, sizeof record, area, HUBQR_AREA_WORDS), reply.load.number)
+CALL(run, reply.run = hubqr_run(begun, HUBQR_TURNS, area, HUBQR_AREA_WORDS), reply.run.number)
+CALL(fetch, reply.number = hubqr_fetch(finished, area, HUBQR_AREA_WORDS, result, sizeof result), reply.number)
+CALL(read_back, reply.read = hubqr_read(result, sizeof result, area, HUBQR_AREA_WORDS), reply.read.number)
+CALL(whole, reply.whole = hubqr_whole(record, sizeof record, area, HUBQR_AREA_WORDS, result, sizeof result),
+     reply.whole.number)
+CALL(none_added, sums = hubqr_sums_none(), HUBQR_ACCEPTED)
+CALL(add, reply.add = hubqr_add_snapshot(samples, sums), reply.add.number)
+CALL(write_matrix, reply.number = hubqr_write_matrix(reply.add.sums, record, sizeof record), reply.number)
+CALL(weights, reply.weights = hubqr_weights(result, sizeof result, samples), reply.weights.number)
+CALL(desk_new, desk = hubqr_desk_new(), HUBQR_ACCEPTED)
+CALL(desk_begin, reply.desk = hubqr_desk_begin(desk), reply.desk.number)
+CALL(desk_load, reply.desk_load = hubqr_desk_load(desk, 7, record, sizeof record, area, HUBQR_AREA_WORDS),
+     reply.desk_load.number)
+CALL(desk_run, reply.desk_run = hubqr_desk_run(reply.desk_load.desk, 7, HUBQR_TURNS, area, HUBQR_AREA_WORDS),
+     reply.desk_run.number)
+CALL(desk_fetch,
+     reply.desk = hubqr_desk_fetch(reply.desk_run.desk, 7, area, HUBQR_AREA_WORDS, result, sizeof result),
+     reply.desk.number)
+CALL(desk_heard, reply.desk_heard = hubqr_desk_heard(desk, 7), reply.desk_heard.number)
+
+/* Each call, in a sequence in which it is accepted. */
+static const struct {
+    const char *name;
+    void (*call)(void);
+} calls[] = {
+    {"Sums of none", none_added},
+    {"Adding a snapshot", add},
+    {"Writing the record", write_matrix},
+    {"Load", load},
+    {"Run", run},
+    {"Fetch", fetch},
+    {"Read", read_back},
+    {"Whole", whole},
+    {"Weights", weights},
+    {"A new desk", desk_new},
+    {"Beginning a round", desk_begin},
+    {"Load at the desk", desk_load},
+    {"Run at the desk", desk_run},
+    {"Fetch at the desk", desk_fetch},
+    {"Heard byte at the desk", desk_heard},
+};
+
+/* The bytes of stack that a call takes. */
+static long taken(void (*call)(void))
+{
+    ucontext_t guest;
+    memset(stack, PAINT, sizeof stack);
+    if (getcontext(&guest) != 0) {
+        abort();
+    }
+    guest.uc_stack.ss_sp = stack;
+    guest.uc_stack.ss_size = sizeof stack;
+    guest.uc_link = &host;
+    makecontext(&guest, call, 0);
+    if (swapcontext(&host, &guest) != 0) {
+        abort();
+    }
+    uint8_t *lowest = stack;
+    while (*lowest == PAINT) {
+        lowest++;
+    }
+    return pointer - lowest;
+}
+
+int main(int argc, char **argv)
+{
+    int markdown = argc == 2 && strcmp(argv[1], "--markdown") == 0;
+    memset(&samples, 0x11, sizeof samples);
+    printf(markdown ? "| call | bytes of stack |\n|---|--:|\n" : "%-24s %14s\n", "call", "bytes of stack");
+    for (size_t k = 0; k < sizeof calls / sizeof *calls; k++) {
+        long bytes = taken(calls[k].call);
+        if (reply.number != HUBQR_ACCEPTED) {
+            fprintf(stderr, "%s: refused with %d\n", calls[k].name, reply.number);
+            return EXIT_FAILURE;
+        }
+        printf(markdown ? "| %s | %ld |\n" : "%-24s %14ld\n", calls[k].name, bytes);
+    }
+    return EXIT_SUCCESS;
+}
