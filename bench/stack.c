@@ -16,7 +16,7 @@ static uint8_t stack[STACK_BYTES];
 static uint8_t *pointer;
 static ucontext_t host;
 
-static uint8_t record[HUBQR_MATRIX_RECORD_BYTES] = {HUBQR_KIND_MATRIX};
+static uint8_t record[HUBQR_MATRIX_RECORD_BYTES];
 static int32_t area[HUBQR_AREA_WORDS];
 static uint8_t result[HUBQR_RESULT_RECORD_BYTES];
 static struct hubqr_snapshot samples;
@@ -79,14 +79,14 @@ static const struct {
     const char *name;
     void (*call)(void);
 } calls[] = {
-    {"Sums of none", none_added},
-    {"Adding a snapshot", add},
-    {"Writing the record", write_matrix},
     {"Load", load},
     {"Run", run},
     {"Fetch", fetch},
     {"Read", read_back},
     {"Whole", whole},
+    {"Sums of none", none_added},
+    {"Adding a snapshot", add},
+    {"Writing the record", write_matrix},
     {"Weights", weights},
     {"A new desk", desk_new},
     {"Beginning a round", desk_begin},
@@ -118,11 +118,21 @@ static long taken(void (*call)(void))
     return pointer - lowest;
 }
 
+/* A matrix record and samples in which antennas are heard. */
+static void fill(void)
+{
+    for (size_t k = 0; k < sizeof record; k++) {
+        record[k] = (uint8_t)(k * k % 127);
+    }
+    record[0] = HUBQR_KIND_MATRIX;
+    memset(&samples, 0x11, sizeof samples);
+}
+
 int main(int argc, char **argv)
 {
     int markdown = argc == 2 && strcmp(argv[1], "--markdown") == 0;
-    memset(&samples, 0x11, sizeof samples);
-    printf(markdown ? "| call | bytes of stack |\n|---|--:|\n" : "%-24s %14s\n", "call", "bytes of stack");
+    fill();
+    puts(markdown ? "| call | bytes of stack |\n|---|--:|" : "call                     bytes of stack");
     for (size_t k = 0; k < sizeof calls / sizeof *calls; k++) {
         long bytes = taken(calls[k].call);
         if (reply.number != HUBQR_ACCEPTED) {
