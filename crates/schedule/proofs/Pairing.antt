@@ -1,7 +1,7 @@
 -- A stage pairs the rows that stand in order: by place, and how many; and no column and no row passes 15. Assumes nothing.
 use mathlib.Core.Path.{_≡_, refl, ap, _∙_}
 use mathlib.Core.List.{List, [], _∷_}
-use Prim.Native.Nat.{ℕ, zero, suc, _+_, _*_, _/_, _<_, _≤_, zero-le}
+use Prim.Native.Nat.{ℕ, zero, suc, _+_, _*_, _/_, _<_, _≤_}
 use native.Mathlib.Nat.{le-of-suc-le-suc, not-suc-le-zero}
 use native.Mathlib.Omega.{arith}
 use lib.Dec.{T}
@@ -9,7 +9,7 @@ use lib.ListN.{length, getD}
 use Rattle.schedule.specs.declared.Rotation.{Rotation}
 use Rattle.schedule.specs.Schedule.{stageRotations, survivors, stages, upFrom, columnStages, stagesRotations, columnsRotations, schedule, noRotation, flat}
 use Rattle.schedule.specs.Pairing.{StagePairs, StageCount, StageStands, StandingCount, AtMost15}
-use Rattle.integers.proofs.Claim.{Claim, always, less, both, Means, test, sound}
+use Rattle.integers.proofs.Claim.{Claim, less, test, sound, each, each-at}
 
 place-more : (m : ℕ) → 2 * suc m ≡ suc (suc (2 * m))
 place-more m = omega arith
@@ -44,22 +44,14 @@ standing-count [] = refl
 standing-count (a ∷ []) = refl
 standing-count (a ∷ b ∷ rest) = omega (arith, standing-count rest)
 
--- ---- no number of the schedule passes 15: one claim over all of them, which antt tests, and a law that carries it to each
+-- ---- no number of the schedule passes 15: one claim over all of them, which antt tests, and which holds of each
 
--- each number of a list is at most n
-allAtMost : ℕ → List ℕ → Claim
-allAtMost n [] = always
-allAtMost n (x ∷ xs) = both (less x (suc n)) (allAtMost n xs)
+abbrev allAtMost : ℕ → Claim
+allAtMost n = each 360 (λ k. less (getD (flat schedule) k 0) (suc n))
 
-at-most-at : (n : ℕ) (xs : List ℕ) → Means (allAtMost n xs) → (k : ℕ) → getD xs k 0 ≤ n
-unfolding allAtMost
-at-most-at n [] p k = zero-le
-at-most-at n (x ∷ xs) p zero = le-of-suc-le-suc (p .0)
-at-most-at n (x ∷ xs) p (suc k) = at-most-at n xs (p .1) k
-
-at-most : (n : ℕ) (xs : List ℕ) → T (test (allAtMost n xs)) → (k : ℕ) → getD xs k 0 ≤ n
-at-most n xs t = at-most-at n xs (sound (allAtMost n xs) t)
+at-most : (n : ℕ) → T (test (allAtMost n)) → (k : ℕ) → k < 360 → getD (flat schedule) k 0 ≤ n
+at-most n t k h = le-of-suc-le-suc (each-at 360 (λ j. less (getD (flat schedule) j 0) (suc n)) (sound (allAtMost n) t) k h)
 
 pub at-most-15 : AtMost15
-unfolding allAtMost flat schedule columnsRotations stagesRotations columnStages stages survivors upFrom stageRotations
-at-most-15 = at-most _ (flat schedule) tt
+unfolding each flat schedule columnsRotations stagesRotations columnStages stages survivors upFrom stageRotations
+at-most-15 = at-most _ tt

@@ -1,5 +1,5 @@
 -- Document 01, "Tree order": which rows a stage pairs and in which order, the whole schedule in closed form, 120 rotations and 49 stages, and in each
--- column the stages end with its first row alone. Document 02, U9: no number of it passes 15. That the constant table of the code holds the schedule is
+-- column the stages end with its first row alone. Document 02, U9: no column and no row passes 15. That the constant table of the code holds the schedule is
 -- the contract of `table`. Assumes nothing.
 use mathlib.Core.Path.{_≡_, refl}
 use mathlib.Core.List.{List, [], _∷_}
@@ -65,4 +65,4 @@ row-alone = refl
 
 -- document 02, U9, "Columns and rows never pass 15": none of the 360 numbers does
 abbrev pub AtMost15 : Type 0
-AtMost15 = (k : ℕ) → getD (flat schedule) k 0 ≤ 15
+AtMost15 = (k : ℕ) → k < 360 → getD (flat schedule) k 0 ≤ 15

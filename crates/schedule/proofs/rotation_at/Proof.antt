@@ -1,7 +1,7 @@
 -- `rotation_at` meets its contract: the schedule's rotation stands at the three bytes, each of which fits an index. Assumes nothing.
 use mathlib.Core.Path.{_≡_}
 use mathlib.Core.List.{List}
-use Prim.Native.Nat.{ℕ}
+use Prim.Native.Nat.{ℕ, _<_}
 use native.Mathlib.Omega.{arith}
 use lib.ListN.{getD}
 use mir.Syntax.{w64}
@@ -14,8 +14,8 @@ use Rattle.schedule.proofs.rotation_at.Statement.{statement}
 use Rattle.schedule.proofs.rotation_at.Tie as tie
 
 -- a number of the schedule fits an index
-fits-index : (table : List ℕ) (k : ℕ) → table ≡ flat schedule → Fits w64 (getD table k 0)
-fits-index table k e = rw e (omega (arith, at-most-15 k))
+fits-index : (table : List ℕ) (k : ℕ) → table ≡ flat schedule → k < 360 → Fits w64 (getD table k 0)
+fits-index table k e h = rw e (omega (arith, at-most-15 k h))
 
 mul-at : tie.Need-mul-at
 mul-at c = search needs
@@ -24,7 +24,7 @@ element-copy-out-column : tie.Need-element-copy-out-column
 element-copy-out-column c = search needs
 
 cast-column : tie.Need-cast-column
-cast-column c = fits-index _ _ (c .before .pre .0)
+cast-column c = fits-index _ _ (c .before .pre .0) (omega arith)
 
 add-upper : tie.Need-add-upper
 add-upper c = search needs
@@ -33,7 +33,7 @@ element-copy-out-upper : tie.Need-element-copy-out-upper
 element-copy-out-upper c = search needs
 
 cast-upper : tie.Need-cast-upper
-cast-upper c = fits-index _ _ (c .before .before .pre .0)
+cast-upper c = fits-index _ _ (c .before .before .pre .0) (omega arith)
 
 add-lower : tie.Need-add-lower
 add-lower c = search needs
@@ -42,7 +42,7 @@ element-copy-out-lower : tie.Need-element-copy-out-lower
 element-copy-out-lower c = search needs
 
 cast-lower : tie.Need-cast-lower
-cast-lower c = fits-index _ _ (c .before .before .before .pre .0)
+cast-lower c = fits-index _ _ (c .before .before .before .pre .0) (omega arith)
 
 returns : tie.Need-returns
 returns c =
