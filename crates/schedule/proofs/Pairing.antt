@@ -46,12 +46,12 @@ standing-count (a ∷ b ∷ rest) = omega (arith, standing-count rest)
 
 -- ---- no number of the schedule passes 15: one claim over all of them, which antt tests, and which holds of each
 
-abbrev allAtMost : ℕ → Claim
-allAtMost n = each 360 (λ k. less (getD (flat schedule) k 0) (suc n))
+abbrev allAtMost : ℕ → ℕ → Claim
+allAtMost n past = each 360 (λ k. less (getD (flat schedule) k past) (suc n))
 
-at-most : (n : ℕ) → T (test (allAtMost n)) → (k : ℕ) → k < 360 → getD (flat schedule) k 0 ≤ n
-at-most n t k h = le-of-suc-le-suc (each-at 360 (λ j. less (getD (flat schedule) j 0) (suc n)) (sound (allAtMost n) t) k h)
+at-most : (n past : ℕ) → T (test (allAtMost n past)) → (k : ℕ) → k < 360 → getD (flat schedule) k past ≤ n
+at-most n past t k h = le-of-suc-le-suc (each-at 360 (λ j. less (getD (flat schedule) j past) (suc n)) (sound (allAtMost n past) t) k h)
 
 pub at-most-15 : AtMost15
 unfolding each flat schedule columnsRotations stagesRotations columnStages stages survivors upFrom stageRotations
-at-most-15 = at-most _ tt
+at-most-15 k past h = at-most _ past tt k h

@@ -63,6 +63,6 @@ pub row-alone : allBelow 15 (λ j. eqb (length (standing [] (columnStages j))) 1
 unfolding allBelow standing columnStages stages survivors upFrom
 row-alone = refl
 
--- document 02, U9, "Columns and rows never pass 15": none of the 360 numbers does
+-- document 02, U9, "Columns and rows never pass 15": none of the 360 numbers does, and none is missing, since it is so whatever `past` would stand for one
 abbrev pub AtMost15 : Type 0
-AtMost15 = (k : ℕ) → k < 360 → getD (flat schedule) k 0 ≤ 15
+AtMost15 = (k past : ℕ) → k < 360 → getD (flat schedule) k past ≤ 15

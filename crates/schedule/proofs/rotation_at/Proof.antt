@@ -15,7 +15,7 @@ use Rattle.schedule.proofs.rotation_at.Tie as tie
 
 -- a number of the schedule fits an index
 fits-index : (table : List ℕ) (k : ℕ) → table ≡ flat schedule → k < 360 → Fits w64 (getD table k 0)
-fits-index table k e h = rw e (omega (arith, at-most-15 k h))
+fits-index table k e h = rw e (omega (arith, at-most-15 k 0 h))
 
 mul-at : tie.Need-mul-at
 mul-at c = search needs
