@@ -3,7 +3,7 @@
  * others by Whole; the weights of the latter for random targets, and SNAPSHOTS random snapshots added and the sums written after
  * each, by the engine and by the versions in C. With the argument half-empty or diagonal: MATRICES such matrices by Whole. With
  * the argument single: MATRICES random matrices by Load and a Run of allowance 1 at each turn number. With the argument desk:
- * MATRICES Runs of request 0, by the engine's desk and by that in C.
+ * MATRICES Runs of request 0 and as many settings of shares, by the engine's desk and by that in C.
  */
 #include "covariance.h"
 #include "desk.h"
@@ -151,15 +151,18 @@ static int emptier(void (*make)(uint8_t *record))
     return 1;
 }
 
-/* Answers whether both desks accept a request of 0 for each sector, so that what they do beside the turns is counted. */
+/* Answers whether both desks accept shares and a request of 0, so that what they do beside the turns is counted. */
 static int at_desks(void)
 {
+    static const struct hubqr_shares shares = {{1, 2, 3, 4, 5, 6, 7, 92}};
     struct hubqr_desk desk = hubqr_desk_new();
     for (uint32_t k = 0; k < MATRICES; k++) {
         uint32_t sector = k % HUBQR_SECTORS;
         struct hubqr_desk_run_reply by_engine = hubqr_desk_run(desk, sector, 0, area, HUBQR_AREA_WORDS);
         struct hubqr_desk_run_reply in_c = NAME(desk_run)(desk, sector, 0, area, HUBQR_AREA_WORDS);
-        if (by_engine.number != HUBQR_ACCEPTED || in_c.number != HUBQR_ACCEPTED) {
+        if (by_engine.number != HUBQR_ACCEPTED || in_c.number != HUBQR_ACCEPTED
+            || hubqr_desk_set_shares(desk, shares).number != HUBQR_ACCEPTED
+            || NAME(desk_set_shares)(desk, shares).number != HUBQR_ACCEPTED) {
             return 0;
         }
     }

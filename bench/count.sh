@@ -51,7 +51,7 @@ awk -v matrices=$matrices -v snapshots=$snapshots -v style="${1:-plain}" '
         gsub(",", "", $1)
         count[name] = $1 / snapshots
     }
-    match($0, /(hubqr_weights|c_weights|hubqr_desk_run|c_desk_run)/) {
+    match($0, /(hubqr_weights|c_weights|hubqr_desk_(run|set_shares)|c_desk_(run|set_shares))/) {
         name = substr($0, RSTART, RLENGTH)
         gsub(",", "", $1)
         count[name] = $1 / matrices
@@ -75,5 +75,6 @@ awk -v matrices=$matrices -v snapshots=$snapshots -v style="${1:-plain}" '
         compared("Writing the record", count["hubqr_write_matrix"], count["c_write_by_value"])
         compared("Weights", count["hubqr_weights"], count["c_weights"])
         compared("Desk, request 0", count["hubqr_desk_run"], count["c_desk_run"])
+        compared("Setting shares", count["hubqr_desk_set_shares"], count["c_desk_set_shares"])
     }' "$scratch/full" kind=', half-empty' "$scratch/half-empty" kind=', diagonal' "$scratch/diagonal" \
     kind=', single' "$scratch/single" kind=', desk' "$scratch/desk"

@@ -1,9 +1,24 @@
-/* Rounds and a sector's Run as the request words them, with all its tests: first the tests, then the work. */
+/* Rounds, shares and a sector's Run as the request words them, with all their tests: first the tests, then the work. */
 #include "desk.h"
+
+#include <string.h>
 
 struct hubqr_desk_reply NAME(desk_begin)(struct hubqr_desk desk)
 {
-    desk.left = HUBQR_ROUND_TURNS;
+    memcpy(desk.left, desk.shares, sizeof desk.left);
+    return (struct hubqr_desk_reply){desk, HUBQR_ACCEPTED};
+}
+
+struct hubqr_desk_reply NAME(desk_set_shares)(struct hubqr_desk desk, struct hubqr_shares shares)
+{
+    uint32_t total = 0;
+    for (int k = 0; k < HUBQR_SECTORS; k++) {
+        total += shares.shares[k];
+    }
+    if (total > HUBQR_ROUND_TURNS) {
+        return (struct hubqr_desk_reply){desk, HUBQR_SHARES_EXCEED_ROUND};
+    }
+    memcpy(desk.shares, shares.shares, sizeof desk.shares);
     return (struct hubqr_desk_reply){desk, HUBQR_ACCEPTED};
 }
 
@@ -19,7 +34,7 @@ static uint8_t refusal(const struct hubqr_desk *desk, uint32_t sector, uint16_t 
     if (job.turn > HUBQR_TURNS || job.made > job.turn) {
         return HUBQR_NO_SUCH_JOB;
     }
-    return request > 0 && job.turn < HUBQR_TURNS && desk->left == 0 ? HUBQR_ROUND_USED_UP : HUBQR_ACCEPTED;
+    return request > 0 && job.turn < HUBQR_TURNS && desk->left[sector] == 0 ? HUBQR_COUNT_USED_UP : HUBQR_ACCEPTED;
 }
 
 /* The engine's Run stops where the job does, so that what it went on by is what is granted. */
@@ -30,10 +45,10 @@ struct hubqr_desk_run_reply NAME(desk_run)(struct hubqr_desk desk, uint32_t sect
     if (reply.number != HUBQR_ACCEPTED) {
         return reply;
     }
-    uint16_t allowance = request < desk.left ? request : desk.left;
-    struct hubqr_run_reply ran = hubqr_run(desk.jobs[sector], allowance, area, area_len);
+    uint16_t left = desk.left[sector];
+    struct hubqr_run_reply ran = hubqr_run(desk.jobs[sector], request < left ? request : left, area, area_len);
     reply.desk.jobs[sector] = ran.job;
-    reply.desk.left = (uint16_t)(desk.left - ran.count);
+    reply.desk.left[sector] = (uint16_t)(left - ran.count);
     reply.job = ran.job;
     reply.count = ran.count;
     reply.clamps_r = ran.clamps_r;

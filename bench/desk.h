@@ -9,6 +9,7 @@
 #include "name.h"
 
 struct hubqr_desk_reply NAME(desk_begin)(struct hubqr_desk desk);
+struct hubqr_desk_reply NAME(desk_set_shares)(struct hubqr_desk desk, struct hubqr_shares shares);
 struct hubqr_desk_run_reply NAME(desk_run)(struct hubqr_desk desk, uint32_t sector, uint16_t request, int32_t *area,
                                            size_t area_len);
 

@@ -22,6 +22,7 @@ static uint8_t result[HUBQR_RESULT_RECORD_BYTES];
 static struct hubqr_snapshot samples;
 static struct hubqr_sums sums;
 static struct hubqr_desk desk;
+static const struct hubqr_shares shares = {{0, 0, 0, 0, 0, 0, 0, HUBQR_ROUND_TURNS}};
 static const struct hubqr_job begun = {0, 0}, finished = {HUBQR_TURNS, 0};
 
 /* What the calls answer, kept so that each is made. */
@@ -64,8 +65,9 @@ CALL(add, reply.add = hubqr_add_snapshot(samples, sums), reply.add.number)
 CALL(write_matrix, reply.number = hubqr_write_matrix(reply.add.sums, record, sizeof record), reply.number)
 CALL(weights, reply.weights = hubqr_weights(result, sizeof result, samples), reply.weights.number)
 CALL(desk_new, desk = hubqr_desk_new(), HUBQR_ACCEPTED)
-CALL(desk_begin, reply.desk = hubqr_desk_begin(desk), reply.desk.number)
-CALL(desk_load, reply.desk_load = hubqr_desk_load(desk, 7, record, sizeof record, area, HUBQR_AREA_WORDS),
+CALL(desk_set_shares, reply.desk = hubqr_desk_set_shares(desk, shares), reply.desk.number)
+CALL(desk_begin, reply.desk = hubqr_desk_begin(reply.desk.desk), reply.desk.number)
+CALL(desk_load, reply.desk_load = hubqr_desk_load(reply.desk.desk, 7, record, sizeof record, area, HUBQR_AREA_WORDS),
      reply.desk_load.number)
 CALL(desk_run, reply.desk_run = hubqr_desk_run(reply.desk_load.desk, 7, HUBQR_TURNS, area, HUBQR_AREA_WORDS),
      reply.desk_run.number)
@@ -89,6 +91,7 @@ static const struct {
     {"Writing the record", write_matrix},
     {"Weights", weights},
     {"A new desk", desk_new},
+    {"Setting shares", desk_set_shares},
     {"Beginning a round", desk_begin},
     {"Load at the desk", desk_load},
     {"Run at the desk", desk_run},

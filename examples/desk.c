@@ -1,6 +1,7 @@
 /*
- * A hub serves its eight sectors by one desk: loads each from a record, requests turns for all of them in round after round
- * until their jobs are finished, and compares each result, byte for byte, with what Whole makes of the same record.
+ * A hub serves its eight sectors by one desk: gives each a share of a round, loads each from a record, requests turns for all of
+ * them in round after round until their jobs are finished, and compares each result, byte for byte, with what Whole makes of the
+ * same record. One sector requests all that it can and more, and the others are served all the same.
  *
  *   cc -std=c11 -Iinclude examples/desk.c build/libhubqr.a -o build/desk
  *   build/desk [RECORD...]
@@ -16,8 +17,12 @@
 
 #define RECORDS "examples/records/"
 
-/* The turns that are requested for a sector in a round. The round's 120 are no multiple of them, so that some get fewer. */
-enum { REQUEST = 50 };
+/* Sectors 0 and 5 are busy and get more than the others. What the others have at a new desk would be too many beside that. */
+static const struct hubqr_shares TOO_MANY = {{35, 15, 15, 15, 15, 25, 15, 15}};
+static const struct hubqr_shares SHARES = {{35, 10, 10, 10, 10, 25, 10, 10}};
+
+/* The sector that requests all 120 turns of each round, twice. The others request their share. */
+enum { GREEDY = 5 };
 
 /* The records of sectors 0 to 7 where none is named. */
 static const char *const SAMPLES[HUBQR_SECTORS] = {
@@ -34,6 +39,7 @@ struct sector {
     uint8_t record[HUBQR_MATRIX_RECORD_BYTES + 1];
     size_t length;
     int32_t area[HUBQR_AREA_WORDS];
+    unsigned rounds; /* those in which it was served */
 };
 
 struct hub {
@@ -66,6 +72,22 @@ static void print_refusal(uint8_t number)
     printf("refused with number %u: %s\n", (unsigned)number, hubqr_refusal_words(number));
 }
 
+/* Sets the shares, which count from the next round on. If they are refused, the desk keeps those that it has. */
+static void set_shares(struct hub *hub, struct hubqr_shares shares)
+{
+    uint8_t number = hubqr_desk_set_shares_at(&hub->desk, shares);
+    printf("shares");
+    for (uint32_t k = 0; k < HUBQR_SECTORS; k++) {
+        printf(" %u", (unsigned)shares.shares[k]);
+    }
+    printf(": ");
+    if (number == HUBQR_ACCEPTED) {
+        printf("set\n");
+    } else {
+        print_refusal(number);
+    }
+}
+
 /* Loads the sectors that have a record. A refused Load leaves its sector as it was, and the others are served all the same. */
 static void load_sectors(struct hub *hub, uint32_t count)
 {
@@ -82,49 +104,54 @@ static void load_sectors(struct hub *hub, uint32_t count)
     }
 }
 
-/* Prints what a Run was granted, and what the desk has then. The job is the desk's, since a refused Run answers (0, 0). */
-static void print_run(unsigned round, uint32_t sector, const struct hubqr_desk_run_reply *ran)
+/*
+ * Requests turns for each sector that is not finished, one after the other, and prints what is granted to each. The greedy one
+ * gets its share, as the others do, and is refused when it requests more: none of that is taken from those that come after it.
+ */
+static void serve_round(struct hub *hub, unsigned round)
 {
-    struct hubqr_job job = ran->desk.jobs[sector];
-    printf("%5u  %6lu  %9d  %7lu  %4lu  %4lu  %4u", round, (unsigned long)sector, REQUEST, (unsigned long)ran->count,
-           (unsigned long)job.turn, (unsigned long)job.made, (unsigned)ran->desk.left);
-    if (ran->number != HUBQR_ACCEPTED) {
-        printf("  %7u", (unsigned)ran->number);
+    uint8_t refused = HUBQR_ACCEPTED;
+    printf("%5u", round);
+    for (uint32_t k = 0; k < HUBQR_SECTORS; k++) {
+        struct sector *sector = &hub->sectors[k];
+        if (hub->desk.jobs[k].turn == HUBQR_TURNS) {
+            printf("  %3s", "-");
+            continue;
+        }
+        uint16_t request = k == GREEDY ? HUBQR_ROUND_TURNS : hub->desk.shares[k];
+        struct hubqr_desk_run_reply ran = hubqr_desk_run_at(&hub->desk, k, request, sector->area, HUBQR_AREA_WORDS);
+        printf("  %3lu", (unsigned long)ran.count);
+        sector->rounds++;
+        if (k == GREEDY) {
+            refused = hubqr_desk_run_at(&hub->desk, k, request, sector->area, HUBQR_AREA_WORDS).number;
+        }
+    }
+    if (refused != HUBQR_ACCEPTED) {
+        printf("  %7u", (unsigned)refused);
     }
     printf("\n");
 }
 
-/*
- * Requests turns for each sector that is not finished, one after the other. Returns how many were granted to all of them. Every
- * round starts at sector 0, so that sector 7 of the samples waits for five rounds. To serve all alike, a host requests 15 for
- * each, or starts each round at another sector.
- */
-static uint32_t serve_round(struct hub *hub, unsigned round)
+static int all_finished(const struct hubqr_desk *desk)
 {
-    uint32_t granted = 0;
+    int finished = 1;
     for (uint32_t k = 0; k < HUBQR_SECTORS; k++) {
-        if (hub->desk.jobs[k].turn == HUBQR_TURNS) {
-            continue;
-        }
-        struct hubqr_desk_run_reply ran =
-            hubqr_desk_run_at(&hub->desk, k, REQUEST, hub->sectors[k].area, HUBQR_AREA_WORDS);
-        print_run(round, k, &ran);
-        granted += ran.count;
+        finished = finished && desk->jobs[k].turn == HUBQR_TURNS;
     }
-    return granted;
+    return finished;
 }
 
 /*
- * Serves rounds until one grants nothing, since all jobs are finished then. The first needs no begin: a new desk stands at the
- * start of one.
+ * Serves rounds until all jobs are finished. The first is begun as well: the one that a new desk stands at the start of has the
+ * first shares, 15 for each sector.
  */
 static void serve(struct hub *hub)
 {
-    printf("\nnumber %d: %s\n", HUBQR_ROUND_USED_UP, hubqr_refusal_words(HUBQR_ROUND_USED_UP));
-    printf("round  sector  requested  granted  turn  made  left  refused\n");
-    unsigned round = 1;
-    while (serve_round(hub, round) > 0 && hubqr_desk_begin_at(&hub->desk) == HUBQR_ACCEPTED) {
-        round++;
+    printf("\nnumber %d: %s\n", HUBQR_COUNT_USED_UP, hubqr_refusal_words(HUBQR_COUNT_USED_UP));
+    printf("turns granted to sectors 0 to 7, and what sector %d is refused with when it requests more\n", GREEDY);
+    printf("round    0    1    2    3    4    5    6    7  refused\n");
+    for (unsigned round = 1; !all_finished(&hub->desk) && hubqr_desk_begin_at(&hub->desk) == HUBQR_ACCEPTED; round++) {
+        serve_round(hub, round);
     }
     printf("\n");
 }
@@ -143,6 +170,20 @@ static int fetched_as_whole(struct hub *hub, uint32_t k)
 }
 
 /*
+ * Prints what became of a sector that was loaded. Returns whether its result is right, and took no more rounds than 120 divided
+ * by its share, rounded up.
+ */
+static int print_result(struct hub *hub, uint32_t k)
+{
+    unsigned rounds = hub->sectors[k].rounds, share = hub->desk.shares[k], most = (HUBQR_TURNS + share - 1) / share;
+    int same = fetched_as_whole(hub, k);
+    printf("heard byte %02X, %lu turns made, ", (unsigned)hub->desk.heard[k], (unsigned long)hub->desk.jobs[k].made);
+    printf("share %u, finished in %u rounds of at most %u, ", share, rounds, most);
+    printf("the result %s the one that Whole makes\n", same ? "is" : "is not");
+    return same && rounds <= most;
+}
+
+/*
  * Prints what became of each sector, and what is said of sector 8, which is not there. Returns whether all results are right. A
  * sector never loaded is known by its heard byte, 0. Fetch would not tell, since its job is (120, 0), as if it were finished.
  */
@@ -157,9 +198,7 @@ static int print_results(struct hub *hub)
         } else if (reply.heard == 0) {
             printf("heard byte 00, never loaded\n");
         } else {
-            int same = fetched_as_whole(hub, k);
-            printf("heard byte %02X, the result %s the one that Whole makes\n", (unsigned)reply.heard, same ? "is" : "is not");
-            right = right && same;
+            right = print_result(hub, k) && right;
         }
     }
     return right;
@@ -189,6 +228,8 @@ int main(int argc, char **argv)
         }
     }
     hub.desk = hubqr_desk_new();
+    set_shares(&hub, TOO_MANY);
+    set_shares(&hub, SHARES);
     load_sectors(&hub, count);
     serve(&hub);
     int right = print_results(&hub);

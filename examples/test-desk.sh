@@ -1,6 +1,6 @@
 #!/bin/sh
 # Runs the C and the Rust program that serve eight sectors by a desk, from the top of the repository, and compares what they print and their exit
-# status, and the turns that are granted with those that the rule gives.
+# status, the turns that are granted with those that the rule gives, and the rounds that a sector takes with those that its share promises.
 # Usage: examples/test-desk.sh C_PROGRAM RUST_PROGRAM
 set -u
 export LC_ALL=C
@@ -16,25 +16,39 @@ script=desk
 . tools/checks.sh
 . examples/twins.sh
 
-# granted SECTOR...: the rows of the table for these sectors, loaded and with 50 turns requested in each round, by the rule: round, sector, requested,
-# granted, turn number, what the round has left, and 13 where it had nothing left before.
+# The shares of sectors 0 to 7, and the sector that requests 120 in each round, twice; the others request their share.
+shares='35 10 10 10 10 25 10 10'
+greedy=5
+
+# granted SECTOR...: the rows of the table for these sectors, loaded, by the rule: the round, what is granted to each of the eight, - to one that is
+# finished or was never loaded, and 13 where the greedy one requests more for an unfinished job.
 granted() {
-    awk -v loaded="$*" '
+    awk -v loaded="$*" -v shares="$shares" -v greedy="$greedy" '
     function least(a, b) { return a < b ? a : b }
     BEGIN {
+        split(shares, share, " ")
         sectors = split(loaded, sector, " ")
+        for (k = 1; k <= 8; k++) turn[k] = 120
+        for (i = 1; i <= sectors; i++) turn[sector[i] + 1] = 0
         for (round = 1; finished < sectors; round++) {
-            left = 120
-            for (i = 1; i <= sectors; i++) if (turn[i] < 120) {
-                count = least(50, least(left, 120 - turn[i]))
-                refused = left == 0 ? 13 : ""
-                left -= count
-                turn[i] += count
-                finished += turn[i] == 120
-                print round, sector[i], 50, count, turn[i], left, refused
+            row = round
+            refused = ""
+            for (k = 1; k <= 8; k++) {
+                if (turn[k] == 120) { row = row " -"; continue }
+                count = least(k - 1 == greedy ? 120 : share[k], least(share[k], 120 - turn[k]))
+                turn[k] += count
+                finished += turn[k] == 120
+                row = row " " count
+                if (k - 1 == greedy && turn[k] < 120) refused = " 13"
             }
+            print row refused
         }
     }'
+}
+
+# rounds SECTOR: what is said of the rounds that the sector took, which are all that its share promises: 120 divided by it, rounded up.
+rounds() {
+    echo "$shares" | awk -v k="$1" '{ s = $(k + 1); n = int((120 + s - 1) / s); print "share " s ", finished in " n " rounds of at most " n }'
 }
 
 # has COUNT TEXT: TEXT ends that many lines of what was printed last.
@@ -49,24 +63,29 @@ serves() {
     shift
     check 0 'sector 8: refused with number 12: the sector is above 7' "$@"
     granted $sectors >"$scratch/expected"
-    awk '/^ *[0-9]/ { print $1, $2, $3, $4, $5, $7, $8 }' "$scratch/c.out" >"$scratch/table"
+    awk '/^ *[0-9]/ { $1 = $1; print }' "$scratch/c.out" >"$scratch/table"
     cmp -s "$scratch/expected" "$scratch/table" || fail "the table is not that of the rule for the sectors $sectors"
     count=$(echo $sectors | wc -w)
     has $((count)) ', the result is the one that Whole makes'
     has $((8 - count)) 'heard byte 00, never loaded'
     for sector in $sectors; do
-        grep -q "^sector $sector: heard byte .., the result is the one" "$scratch/c.out" || fail "sector $sector has no result"
+        grep -q "^sector $sector: heard byte .., [0-9]* turns made, $(rounds "$sector"), the result is the one" "$scratch/c.out" ||
+            fail "sector $sector has no result, or has it in other rounds"
     done
 }
 
 serves '0 1 2 3 5 6 7'
 check 0 "sector 4: $records/zeros.bin: refused with number 4: no antenna was heard"
-check 0 'number 13: turns are requested for an unfinished job, and the round has none left'
-check 0 '    1       2         50       20    20    20     0'
-check 0 '    1       7         50        0     0     0     0       13'
-# All turns of this matrix are skipped, and the round pays for them all the same.
-check 0 '    5       3         50       40   120     0    80'
-check 0 'sector 1: heard byte DF, the result is the one that Whole makes'
+check 0 'shares 35 15 15 15 15 25 15 15: refused with number 14: the shares are above 120 in total'
+check 0 'shares 35 10 10 10 10 25 10 10: set'
+check 0 'number 13: turns are requested for an unfinished job, and the sector has none left in the round'
+check 0 '    1   35   10   10   10    -   25   10   10       13'
+# The jobs of sectors 0 and 5 have less left than the share.
+check 0 '    4   15   10   10   10    -   25   10   10       13'
+check 0 '    5    -   10   10   10    -   20   10   10'
+check 0 'sector 1: heard byte DF, 120 turns made, share 10, finished in 12 rounds of at most 12, the result is the one that Whole makes'
+# All turns of this matrix are skipped, and the sector's count pays for them all the same.
+check 0 'sector 3: heard byte 01, 0 turns made, share 10, finished in 12 rounds of at most 12, the result is the one that Whole makes'
 serves 0 $records/hermitian.bin
 serves '0 1' $records/extremes.bin $records/single.bin
 every=$records/loose-plug.bin

@@ -2,91 +2,121 @@
  * SPDX-License-Identifier: Apache-2.0
  *
  * hubqr_desk.h - a desk for eight sectors: a radio hub that serves sectors 0 to 7 works the matrix of each in an area of its own,
- * and the desk deals out the turns that a round has for all of them. hubqr.h includes this header, and what it says on replies,
- * ownership, threads, aliasing, null, lengths and versions holds here as well.
+ * and the desk grants each its share of a round's turns. hubqr.h includes this header, and what it says on replies, ownership,
+ * threads, aliasing, null, lengths and versions holds here as well.
  *
  * Use
  *   Once:             hubqr_desk_new.
  *   For each matrix:  hubqr_desk_load, then hubqr_desk_run, over as many rounds as it takes, until desk.jobs[sector].turn is
  *                     HUBQR_TURNS, then hubqr_desk_fetch. Each is for one sector and is lent the area of that sector.
- *   For each round:   hubqr_desk_begin, when the host has time for 120 turns more.
- *   At any time:      hubqr_desk_heard, for the heard byte of a sector.
- *   Each call is handed the desk and answers it in its reply. By pointer, hubqr_desk_begin_at, hubqr_desk_load_at,
- *   hubqr_desk_run_at, hubqr_desk_fetch_at and hubqr_desk_heard_at do the same with a desk that stays where it is.
+ *   For each round:   hubqr_desk_begin, when the host has time for the turns of all shares, 120 at most.
+ *   At any time:      hubqr_desk_set_shares, for shares that count from the next round on; hubqr_desk_heard, for the heard byte
+ *                     of a sector.
+ *   Each call is handed the desk and answers it in its reply. By pointer, hubqr_desk_begin_at, hubqr_desk_set_shares_at,
+ *   hubqr_desk_load_at, hubqr_desk_run_at, hubqr_desk_fetch_at and hubqr_desk_heard_at do the same with a desk that stays where
+ *   it is.
  *
  * Words used below
  *   sector   One of the eight that a hub serves, by its number, 0 to 7. The desk holds its job and its heard byte, which hubqr.h
- *            explains; its area is the caller's. A sector that was never loaded has the job (120, 0) and heard byte 0, as if
- *            its work were done.
- *   round    What the host begins by hubqr_desk_begin; a new desk stands at the start of one. It has HUBQR_ROUND_TURNS turns,
- *            which is 120, for all sectors together. Turns that a round has left when the next one begins are not added to it.
+ *            explains, its share, and what it has left; its area is the caller's. A sector that was never loaded has the job
+ *            (120, 0) and heard byte 0, as if its work were done.
+ *   share    The turns that a sector has in a round: HUBQR_FIRST_SHARE, which is 15, at a new desk, and then what
+ *            hubqr_desk_set_shares gives it. All shares together are at most HUBQR_ROUND_TURNS, which is 120, and may be fewer.
+ *            A share may be 0: in a round that begins with it the sector is granted no turn.
+ *   round    What the host begins by hubqr_desk_begin; a new desk stands at the start of one. Shares that are set in a round
+ *            count from the next one on.
+ *   left     The remaining count of a sector: the turns that it has left in the round. It is refilled from the sector's share
+ *            when a round begins. Turns that a sector has left then are not added.
  *   request  The most turns that a sector's hubqr_desk_run may go on by.
- *   granted  How many turns it goes on by: the smallest of its request, what the round has left, and what the sector's job has
- *            left, which is 120 less its turn number. Clear turns are skipped, as hubqr_run does, and count like any other.
- *            The round pays what was granted.
+ *   granted  How many turns it goes on by: the smallest of its request, what the sector has left in the round, and what its job
+ *            has left, which is 120 less its turn number. Clear turns are skipped, as hubqr_run does, and count like any other.
+ *            The sector's own remaining count pays what was granted, and no other sector's does.
  *
  * What is proved
- *   Each call does what is said with it, whatever desk, sector, area, record and buffer it is handed. Besides, let a desk come
- *   from hubqr_desk_new and each call be handed the desk that the last one answered, that of a refused call too. Let each sector
- *   have an area that is lent to all calls for that sector and that nobody else writes to, not even a call for another sector:
- *   the areas of two sectors may not overlap. Then
+ *   Each call does what is said with it, whatever desk, sector, shares, area, record and buffer it is handed. Besides, let a desk
+ *   come from hubqr_desk_new and each call be handed the desk that the last one answered, that of a refused call too. Let each
+ *   sector have an area that is lent to all calls for that sector and that nobody else writes to, not even a call for another
+ *   sector: the areas of two sectors may not overlap. Then
  *     a sector's area, job and heard byte are as if it had run alone with the turns granted to it;
- *     what is granted to a sector depends on the turns granted to the others earlier in the round, and on nothing else of theirs;
- *     the turns granted in a round are never more than 120;
+ *     these, what is granted to it and all else that its calls answer, but for the desk, depend on its own shares, job and
+ *     requests, on what its calls are lent and on when rounds begin, whatever the other seven do;
+ *     what a sector was granted in a round and what it has left make the share that it had when the round began, so that it is
+ *     never granted more than that share, and all sectors together are never granted more than 120;
+ *     a loaded sector that is not loaded again, has an unchanged share s above 0, and requests s or more, with an area of at
+ *     least 512 words, in every round begun after the load, finishes within 120 divided by s such rounds, rounded up: with the
+ *     share 15 within 8, with 50 within 3;
  *     each result fetched from a sector that was loaded has the bounds that hubqr.h gives, against the matrix last loaded there.
  *
  * Keeping the desk
- *   The desk is 76 bytes of plain numbers and the caller's own. The last two bytes mean nothing: compare desks field by field,
- *   not by memcmp. It may be copied and kept anywhere; a stored desk belongs to the version that made it. Calls for one desk go
+ *   The desk is 104 bytes of plain numbers and the caller's own. No byte of it is padding, so that memcmp tells whether two desks
+ *   are the same. It may be copied and kept anywhere; a stored desk belongs to the version that made it. Calls for one desk go
  *   one after the other, whatever their sectors, since each needs the desk that the last one answered. An older desk is not
- *   noticed: its round grants turns a second time, and its jobs no longer fit their areas.
+ *   noticed: its counts grant turns a second time, and its jobs no longer fit their areas.
  *   No call tests the desk as a whole. Every call takes one that the caller has made up as it is, and does with it what is said
- *   below: `left` may be up to 65,535, and the round then has that many turns; a job that is none, such as (5, 6), is refused
- *   with 5 at hubqr_desk_run and hubqr_desk_fetch, until its sector is loaded again. What is said of a sector that was loaded,
- *   or never loaded, is for desks that came from hubqr_desk_new by calls alone.
+ *   below: `shares` and `left` may be up to 65,535 at each place, whatever they make in total. hubqr_desk_begin copies shares
+ *   untested, since test 14 looks at nothing but the shares that hubqr_desk_set_shares is handed; a sector then has as many turns
+ *   as its count says. A job that is none, such as (5, 6), is refused with 5 at hubqr_desk_run and hubqr_desk_fetch, until its
+ *   sector is loaded again. What is said of a sector that was loaded, or never loaded, and of the shares in total is for desks
+ *   that came from hubqr_desk_new by calls alone.
  *
  * Refusals
  *   A refused call changes nothing: it answers the desk that it was handed, and leaves the area and the buffer as they were. All
  *   other fields of its reply are 0. A refused hubqr_desk_run answers the job (0, 0) as well, unlike hubqr_run, which answers the
  *   job that it was handed: keep the desk, which has the sector's job.
  *   Test 12, whether the sector is above 7, comes before all others. A sector is a number of 32 bits, so that -1, 256 and 65,536
- *   are refused and not cut to one from 0 to 7. C cuts wider types: keep sectors in 32 bits. A request has 16 bits: C makes 0 of
- *   65,536, which is accepted and grants nothing.
+ *   are refused and not cut to one from 0 to 7. C cuts wider types: keep sectors in 32 bits. A request and a share have 16 bits:
+ *   C makes 0 of 65,536 before the call sees it, and a compiler reports that of constants alone. Such a request is accepted and
+ *   grants nothing, and such a share adds nothing to the total that test 14 looks at: keep shares in 16 bits, or test them before
+ *   they are cut.
  */
 #ifndef HUBQR_DESK_H
 #define HUBQR_DESK_H
 
 #include "hubqr_base.h"
 
-/* Sectors of a hub, and the turns that a round has for all of them. */
+/* Sectors of a hub, what the shares of all of them make at most, and the share of each at a new desk. */
 #define HUBQR_SECTORS 8
 #define HUBQR_ROUND_TURNS 120
+#define HUBQR_FIRST_SHARE 15
 
 #ifdef __cplusplus
 extern "C" {
 #endif
 
-/* How far the work for all sectors is, and what the round has left. */
+/* How far the work for all sectors is, and what each has of a round. */
 struct hubqr_desk {
     struct hubqr_job jobs[HUBQR_SECTORS]; /* the job of sector k at place k */
     uint8_t heard[HUBQR_SECTORS];         /* the heard byte of sector k at place k */
-    uint16_t left;                        /* the turns that the round has left */
+    uint16_t shares[HUBQR_SECTORS];       /* the share of sector k at place k */
+    uint16_t left[HUBQR_SECTORS];         /* the turns that sector k has left in the round at place k */
 };
 
-/* A new desk: no sector is loaded, each has the job (120, 0) and heard byte 0, and the round has 120 turns left. */
+/* A new desk: no sector is loaded, each has the job (120, 0), heard byte 0 and a share of 15 turns, and all of them left. */
 struct hubqr_desk hubqr_desk_new(void) HUBQR_REPLY;
 
-/* What beginning a round and Fetch answer. */
+/* What beginning a round, setting shares and Fetch answer. */
 struct hubqr_desk_reply {
     struct hubqr_desk desk; /* the desk to hand to the next call; refused: the one that was handed over */
     uint8_t number;         /* HUBQR_ACCEPTED, or the refusal */
 };
 
 /*
- * Begin: begins a round. What the round has left becomes 120, and nothing else of the desk changes.
+ * Begin: begins a round. What each sector has left becomes its share, and nothing else of the desk changes.
  * No test: it is always accepted.
  */
 struct hubqr_desk_reply hubqr_desk_begin(struct hubqr_desk desk) HUBQR_REPLY;
+
+/* The shares of all sectors. */
+struct hubqr_shares {
+    uint16_t shares[HUBQR_SECTORS]; /* the share of sector k at place k */
+};
+
+/*
+ * Set shares: the desk gets all eight shares, which count from the next round on. What each sector has left in this round stays,
+ * and so does all else of the desk.
+ * Test: 14, when the shares handed over are above 120 in total. The total is exact, for eight shares of 65,535 too.
+ */
+struct hubqr_desk_reply hubqr_desk_set_shares(struct hubqr_desk desk, struct hubqr_shares shares) HUBQR_REPLY;
 
 /* What a sector's Load answers. */
 struct hubqr_desk_load_reply {
@@ -98,7 +128,7 @@ struct hubqr_desk_load_reply {
 
 /*
  * Load, for a sector: fills the area's 512 words from a matrix record, as hubqr_load does. The sector's job becomes (0, 0), even
- * if it was unfinished, and its heard byte that of the record. The round pays nothing and is not refilled.
+ * if it was unfinished, and its heard byte that of the record. Its remaining count pays nothing and is not refilled.
  * Tests, in this order: 12, 1, 2, 3, 4.
  */
 struct hubqr_desk_load_reply hubqr_desk_load(struct hubqr_desk desk, uint32_t sector, const uint8_t *record, size_t record_len,
@@ -117,10 +147,11 @@ struct hubqr_desk_run_reply {
 
 /*
  * Run, for a sector: goes on by the turns granted, as hubqr_run does with the sector's job and that allowance. The desk gets the
- * sector's next job, and the round has that many turns less. Request 0 and turn number 120 are no errors, whatever the round has
- * left: no turn is made. So for a sector that was never loaded only tests 12 and 3 can fail, and the area is left as it is.
+ * sector's next job, and the sector has that many turns less left; nothing changes of the others. Request 0 and turn number 120
+ * are no errors, whatever the sector has left: no turn is made. So for a sector that was never loaded only tests 12 and 3 can
+ * fail, and the area is left as it is.
  * Tests, in this order: 12; 3; 5, of the sector's job; 13, when the request is above 0, the job's turn number under 120, and the
- * round has 0 left.
+ * sector has 0 left, whatever others have left.
  */
 struct hubqr_desk_run_reply hubqr_desk_run(struct hubqr_desk desk, uint32_t sector, uint16_t request, int32_t *area,
                                            size_t area_len)
@@ -150,12 +181,20 @@ struct hubqr_desk_heard_reply hubqr_desk_heard(struct hubqr_desk desk, uint32_t 
 
 /*
  * The calls by pointer: the desk is changed in place, and a refusal leaves it as it is. It may not overlap the record, the area
- * or the buffer. Begin and Fetch answer the number, the others their reply.
+ * or the buffer. Begin, Set shares and Fetch answer the number, the others their reply.
  */
 HUBQR_REPLY HUBQR_NONNULL(1)
 static inline uint8_t hubqr_desk_begin_at(struct hubqr_desk *desk)
 {
     struct hubqr_desk_reply reply = hubqr_desk_begin(*desk);
+    *desk = reply.desk;
+    return reply.number;
+}
+
+HUBQR_REPLY HUBQR_NONNULL(1)
+static inline uint8_t hubqr_desk_set_shares_at(struct hubqr_desk *desk, struct hubqr_shares shares)
+{
+    struct hubqr_desk_reply reply = hubqr_desk_set_shares(*desk, shares);
     *desk = reply.desk;
     return reply.number;
 }

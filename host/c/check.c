@@ -61,8 +61,7 @@ int is_job(struct hubqr_job job, uint32_t turn, uint32_t made)
 
 int same_desk(const struct hubqr_desk *a, const struct hubqr_desk *b)
 {
-    return memcmp(a->jobs, b->jobs, sizeof a->jobs) == 0 && memcmp(a->heard, b->heard, sizeof a->heard) == 0 &&
-           a->left == b->left;
+    return memcmp(a, b, sizeof *a) == 0;
 }
 
 /* An accepted call may write all but the guards. */

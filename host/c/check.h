@@ -38,7 +38,7 @@ void set_element(uint8_t *record, int row, int column, int16_t real, int16_t ima
 
 /* Whether a job has this turn number and this count of turns made. */
 int is_job(struct hubqr_job job, uint32_t turn, uint32_t made);
-/* Whether two desks have the same in all their fields. */
+/* Whether two desks have the same in all their fields, between which no byte is padding. */
 int same_desk(const struct hubqr_desk *a, const struct hubqr_desk *b);
 
 /*

@@ -48,14 +48,34 @@ static void heard_is(const char *what, uint32_t sector, uint8_t heard)
     CHECK(what, same_desk(&desk, &kept));
 }
 
-/* Begins a round in both forms: nothing changes but what it has left. */
+/* Begins a round in both forms: each sector has its share left, and nothing else changes. */
 static void begin(const char *what)
 {
     struct hubqr_desk due = desk;
-    due.left = HUBQR_ROUND_TURNS;
+    memcpy(due.left, desk.shares, sizeof due.left);
     struct hubqr_desk_reply by_value = hubqr_desk_begin(desk);
     CHECK(what, by_value.number == HUBQR_ACCEPTED && same_desk(&by_value.desk, &due));
     CHECK(what, hubqr_desk_begin_at(&desk) == HUBQR_ACCEPTED && same_desk(&desk, &due));
+}
+
+/* Sets shares in both forms: nothing else changes, and no sector has more or less left. */
+static void set_shares(const char *what, struct hubqr_shares shares)
+{
+    struct hubqr_desk due = desk;
+    memcpy(due.shares, shares.shares, sizeof due.shares);
+    struct hubqr_desk_reply by_value = hubqr_desk_set_shares(desk, shares);
+    CHECK(what, by_value.number == HUBQR_ACCEPTED && same_desk(&by_value.desk, &due));
+    CHECK(what, hubqr_desk_set_shares_at(&desk, shares) == HUBQR_ACCEPTED && same_desk(&desk, &due));
+}
+
+/* A round in which a sector has this share, the next one the rest of the 120 turns, and nobody else anything. */
+static void begin_shared(const char *what, uint32_t sector, uint16_t share)
+{
+    struct hubqr_shares shares = {{0}};
+    shares.shares[(sector + 1) % HUBQR_SECTORS] = (uint16_t)(HUBQR_ROUND_TURNS - share);
+    shares.shares[sector] = share;
+    set_shares(what, shares);
+    begin(what);
 }
 
 /* A reply to Load has the engine's fields and this desk. */
@@ -93,14 +113,14 @@ static void check_run(const char *what, struct hubqr_desk_run_reply reply, const
     CHECK(what, same_desk(&reply.desk, due));
 }
 
-/* A sector's Run is granted this much in both forms: what the engine alone makes of it, and the round pays it. */
+/* A sector's Run is granted this much in both forms: what the engine alone makes of it, and the sector's own count pays it. */
 static void run(const char *what, uint32_t sector, uint16_t request, uint16_t granted)
 {
     struct hubqr_run_reply engine = hubqr_run(desk.jobs[sector], granted, alone[sector], AREA_LENT);
     CHECK(what, engine.number == HUBQR_ACCEPTED && engine.count == granted);
     struct hubqr_desk due = desk;
     due.jobs[sector] = engine.job;
-    due.left = (uint16_t)(due.left - granted);
+    due.left[sector] = (uint16_t)(due.left[sector] - granted);
     memcpy(area, areas[sector], sizeof area);
     check_run(what, hubqr_desk_run(desk, sector, request, area, AREA_LENT), &due, &engine);
     check_run(what, hubqr_desk_run_at(&desk, sector, request, areas[sector], AREA_LENT), &due, &engine);
@@ -135,26 +155,32 @@ static void fetch_whole(const char *what, uint32_t sector)
     fetch(what, sector, due);
 }
 
-/* Places a desk where a host could not have brought it: this job for a sector, and this much left. */
+/*
+ * Places a desk where a host could not have brought it: this job and this much left for a sector. All shares and what the others
+ * have left are the contrary, so that nothing but the sector's own count can grant it turns or deny them.
+ */
 static void place(uint32_t sector, uint32_t turn, uint32_t made, uint16_t left)
 {
+    for (int k = 0; k < HUBQR_SECTORS; k++) {
+        desk.shares[k] = desk.left[k] = left == 0 ? 65535 : 0;
+    }
     desk.jobs[sector] = (struct hubqr_job){turn, made};
-    desk.left = left;
+    desk.left[sector] = left;
 }
 
 static void test_new(void)
 {
     start();
-    CHECK("a new desk stands at the start of a round", desk.left == 120);
     for (uint32_t k = 0; k < HUBQR_SECTORS; k++) {
+        CHECK("a new desk stands at the start of a round", desk.shares[k] == 15 && desk.left[k] == 15);
         CHECK("no sector of a new desk is loaded", is_job(desk.jobs[k], 120, 0) && desk.heard[k] == 0);
         heard_is("nothing is heard in a sector that is not loaded", k, 0);
     }
     begin("a round begins at a new desk");
 }
 
-/* Eight sectors that share each round evenly are finished after eight. */
-static void test_even_rounds(void)
+/* Eight sectors with the first shares, whatever they request, are finished after eight rounds. */
+static void test_first_shares(void)
 {
     start();
     for (uint32_t k = 0; k < HUBQR_SECTORS; k++) {
@@ -163,9 +189,9 @@ static void test_even_rounds(void)
     for (int round = 0; round < 8; round++) {
         begin("each of eight rounds");
         for (uint32_t k = 0; k < HUBQR_SECTORS; k++) {
-            run("15 turns for each sector", k, 15, 15);
+            run("15 turns for each sector", k, k % 2 == 0 ? 15 : 65535, 15);
+            CHECK("the count is used up", desk.left[k] == 0);
         }
-        CHECK("the round is used up", desk.left == 0);
     }
     for (uint32_t k = 0; k < HUBQR_SECTORS; k++) {
         fetch_whole("each sector has its own result", k);
@@ -176,32 +202,60 @@ static void test_even_rounds(void)
     CHECK("a full matrix costs all turns", is_job(desk.jobs[7], 120, 120));
 }
 
-/* Whoever comes first in a round may have all of it, and what is left over at its end is lost. */
-static void test_uneven_rounds(void)
+/* Shares count from the next round on. Whoever comes first takes nothing from the others, and what a sector has left is lost. */
+static void test_uneven_shares(void)
 {
     start();
     load("Load of sector 3", 3);
     load("Load of sector 5", 5);
     load("Load of sector 6", 6);
-    run("a first part", 3, 100, 100);
-    run("what the round has left", 5, 65535, 20);
-    run("request 0 when the round is used up", 6, 0, 0);
-    begin("the next round");
-    run("what the job has left", 3, 65535, 20);
+    run("a part of the first share", 3, 10, 10);
+    set_shares("shares in a round", (struct hubqr_shares){{0, 0, 0, 75, 0, 40, 5, 0}});
+    run("what is left of the first share", 3, 65535, 5);
+    run("all of the first share", 6, 65535, 15);
+    begin("a round by other shares, with 15 turns left over of sector 5");
+    run("no more than the share", 3, 65535, 75);
+    run("a share that no other took from", 5, 65535, 40);
+    run("a part of a share", 6, 3, 3);
+    run("request 0 when the count is used up", 3, 0, 0);
+    set_shares("none for sector 6, and fewer in total", (struct hubqr_shares){{0, 0, 0, 35, 0, 80, 0, 0}});
+    run("what is left of a share that is gone", 6, 65535, 2);
+    begin("a round with nothing for sector 6");
+    run("what the job has left", 3, 65535, 30);
     run("finished, whatever is requested", 3, 65535, 0);
-    begin("a round with 100 turns left over");
-    run("all that the job has left", 5, 101, 100);
-    run("all that the round has left", 6, 120, 20);
-    run("finished when the round is used up", 5, 1, 0);
-    begin("the last round");
-    run("all that the job has left, again", 6, 120, 100);
-    CHECK("turns are left over", desk.left == 20);
+    run("all that the job and the sector have left", 5, 81, 80);
+    run("finished when the count is used up", 5, 1, 0);
+    run("request 0 without a share", 6, 0, 0);
+    begin_shared("the last round", 6, 119);
+    run("what the job has left, again", 6, 120, 100);
+    CHECK("turns are left over", desk.left[6] == 19);
     fetch_whole("sector 3 is finished", 3);
     fetch_whole("sector 5 is finished", 5);
     fetch_whole("sector 6 is finished", 6);
 }
 
-/* The smallest of the request, what the round has left and what the job has left, each of them in its turn, and none at all. */
+/* A sector that requests its share in each round is finished after 120 divided by it, rounded up, whatever another requests. */
+static void test_rounds_of_a_share(void)
+{
+    static const uint16_t shares[] = {1, 2, 7, 15, 16, 39, 40, 41, 59, 60, 61, 119, 120};
+    for (size_t n = 0; n < sizeof shares / sizeof *shares; n++) {
+        uint16_t share = shares[n], rest = (uint16_t)(HUBQR_ROUND_TURNS - share);
+        int rounds = 0;
+        start();
+        load("Load of a sector with a share", 2);
+        for (; desk.jobs[2].turn < HUBQR_TURNS; rounds++) {
+            begin_shared("a round with a share", 2, share);
+            load("Load of another in each round", 3);
+            run("the other requests all", 3, rest == 0 ? 0 : 65535, rest);
+            uint16_t left = (uint16_t)(HUBQR_TURNS - desk.jobs[2].turn);
+            run("the share, or what the job has left", 2, share, share < left ? share : left);
+        }
+        CHECK("120 divided by the share, rounded up", rounds == (120 + share - 1) / share);
+        fetch_whole("the result", 2);
+    }
+}
+
+/* The smallest of the request, what the sector has left and what the job has left, each of them in its turn, and none at all. */
 static const struct {
     uint32_t turn, made;
     uint16_t left, request, granted;
@@ -254,6 +308,7 @@ static void test_never_loaded(void)
 {
     static const uint8_t zeros[HUBQR_RESULT_RECORD_BYTES] = {HUBQR_KIND_RESULT};
     start();
+    begin_shared("a round for sector 4", 4, 120);
     load("Load of sector 4", 4);
     run("Run of sector 4", 4, 120, 120);
     for (uint32_t k = 0; k < HUBQR_SECTORS; k++) {
@@ -269,16 +324,44 @@ static void test_never_loaded(void)
     fetch_whole("sector 4 is not disturbed", 4);
 }
 
-/* Load drops an unfinished job and a finished one, and leaves the round alone. */
+/* Shares of 120 in total and less, at every place, on a desk that has used up a part of its counts. */
+static void test_set_shares(void)
+{
+    static const struct hubqr_shares shares[] = {
+        {{0}},
+        {{15, 15, 15, 15, 15, 15, 15, 15}},
+        {{15, 15, 15, 15, 15, 15, 15, 14}},
+        {{1, 2, 3, 4, 5, 6, 7, 92}},
+        {{60, 0, 0, 0, 0, 0, 0, 60}},
+        {{0, 119, 0, 0, 0, 0, 1, 0}},
+    };
+    start();
+    load("Load of sector 0", 0);
+    run("a part of a count", 0, 9, 9);
+    for (size_t n = 0; n < sizeof shares / sizeof *shares; n++) {
+        set_shares("shares of 120 or less", shares[n]);
+        set_shares("the same again", shares[n]);
+        begin("they are left when a round begins");
+        set_shares("others, which are not left", shares[0]);
+    }
+    for (uint32_t k = 0; k < HUBQR_SECTORS; k++) {
+        for (uint16_t share = 0; share <= HUBQR_ROUND_TURNS; share++) {
+            begin_shared("two shares of 120 in total", k, share);
+        }
+    }
+}
+
+/* Load drops an unfinished job and a finished one, and leaves the sector's count alone. */
 static void test_load_again(void)
 {
     start();
+    begin_shared("a round for sector 1", 1, 120);
     load("the first Load", 1);
     run("Run of half of the turns", 1, 60, 60);
     load("Load of an unfinished job", 1);
-    run("all that the round has left", 1, 120, 60);
-    load("Load when the round is used up", 1);
-    CHECK("the round is not refilled", desk.left == 0);
+    run("all that the sector has left", 1, 120, 60);
+    load("Load when the count is used up", 1);
+    CHECK("the count is not refilled", desk.left[1] == 0);
     begin("the next round");
     run("all turns", 1, 120, 120);
     fetch_whole("the result of the last Load", 1);
@@ -288,7 +371,10 @@ static void test_load_again(void)
     fetch_whole("the same result", 1);
 }
 
-/* Any bytes are a desk. Those of one sector's job are of no concern to the others, and Load brings it in order. */
+/*
+ * Any bytes are a desk. Those of one sector are of no concern to the others, and Load brings its job in order. Shares of any size
+ * are left when a round begins, whatever they make in total, until others are set.
+ */
 static void test_made_up(void)
 {
     static const uint16_t left[] = {1, 2, 121, 65535};
@@ -301,8 +387,12 @@ static void test_made_up(void)
         heard_is("a heard byte that was made up", 2, 0xc3);
         run("a job that was made up", 6, 65535, left[n] < 2 ? left[n] : 2);
         load("Load in place of a job that is none", 2);
-        begin("a round at a desk that was made up");
-        run("a sector that is in order again", 2, 65535, 120);
+        memset(desk.shares, 0xff, sizeof desk.shares);
+        desk.shares[2] = left[n];
+        begin("a round with shares that were made up");
+        run("a sector that is in order again", 2, 65535, left[n] < 120 ? left[n] : 120);
+        begin_shared("a round with shares that were set", 2, 120);
+        run("what its job has left", 2, 65535, left[n] < 120 ? (uint16_t)(120 - left[n]) : 0);
         fetch_whole("its result", 2);
         load("Load in place of the largest numbers", 7);
     }
@@ -316,11 +406,13 @@ static void test_exact_blocks(void)
     int32_t *words = malloc(HUBQR_AREA_WORDS * sizeof *words);
     CHECK("memory for exact sizes", kept && record && result && words);
     *kept = hubqr_desk_new();
+    CHECK("shares", hubqr_desk_set_shares_at(kept, (struct hubqr_shares){{0, 0, 0, 0, 0, 0, 0, 120}}) == 0);
+    CHECK("a round", hubqr_desk_begin_at(kept) == 0);
     memcpy(record, records[7], HUBQR_MATRIX_RECORD_BYTES);
     CHECK("Load", hubqr_desk_load_at(kept, 7, record, HUBQR_MATRIX_RECORD_BYTES, words, HUBQR_AREA_WORDS).number == 0);
     CHECK("Run", hubqr_desk_run_at(kept, 7, 120, words, HUBQR_AREA_WORDS).count == 120);
     CHECK("Fetch", hubqr_desk_fetch_at(kept, 7, words, HUBQR_AREA_WORDS, result, HUBQR_RESULT_RECORD_BYTES) == 0);
-    CHECK("heard", hubqr_desk_heard_at(kept, 7).heard == 0xff && hubqr_desk_begin_at(kept) == 0);
+    CHECK("heard", hubqr_desk_heard_at(kept, 7).heard == 0xff);
     struct hubqr_whole_reply whole = hubqr_whole(record, HUBQR_MATRIX_RECORD_BYTES, area, AREA_LENT, buffer, BUFFER_LENT);
     CHECK("Whole", whole.number == HUBQR_ACCEPTED);
     CHECK("same record as in longer lent memory", memcmp(result, buffer, HUBQR_RESULT_RECORD_BYTES) == 0);
@@ -334,10 +426,12 @@ void test_desk(void)
 {
     make_records();
     test_new();
-    test_even_rounds();
-    test_uneven_rounds();
+    test_first_shares();
+    test_uneven_shares();
+    test_rounds_of_a_share();
     test_granted();
     test_never_loaded();
+    test_set_shares();
     test_load_again();
     test_made_up();
     test_exact_blocks();

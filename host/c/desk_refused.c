@@ -77,16 +77,18 @@ static void refuse_heard(const struct handed *h, const struct hubqr_desk *desk, 
     CHECK(h->what, by_pointer.number == number && by_pointer.heard == 0 && same_desk(&by_pointer.desk, desk));
 }
 
-/* A desk whose sectors differ, with the job of one and what is left as they are handed. */
+/* A desk whose sectors differ, with the job of one and what it has left as they are handed. All others have turns left. */
 static struct hubqr_desk desk_of(const struct handed *h, uint32_t sector)
 {
     struct hubqr_desk desk;
     for (uint32_t k = 0; k < HUBQR_SECTORS; k++) {
         desk.jobs[k] = (struct hubqr_job){10 * k, k};
         desk.heard[k] = (uint8_t)(0xf0 + k);
+        desk.shares[k] = (uint16_t)(11 + k);
+        desk.left[k] = (uint16_t)(65535 - k);
     }
     desk.jobs[sector] = h->job;
-    desk.left = h->left;
+    desk.left[sector] = h->left;
     return desk;
 }
 
@@ -142,18 +144,18 @@ static void test_run(void)
         {"Run on a null area", NULL, 0, NULL, 0, NULL, 0, {0, 0}, 120, 0, HUBQR_AREA_TOO_SHORT},
         {"Run of nothing loaded on 511 words", NULL, 0, area, 511, NULL, 0, {120, 0}, 120, 65535, HUBQR_AREA_TOO_SHORT},
         {"Run of job (5, 6) on 511 words", NULL, 0, area, 511, NULL, 0, {5, 6}, 0, 1, HUBQR_AREA_TOO_SHORT},
-        {"Run on 511 words in a round used up", NULL, 0, area, 511, NULL, 0, {7, 5}, 0, 1, HUBQR_AREA_TOO_SHORT},
+        {"Run on 511 words, none left", NULL, 0, area, 511, NULL, 0, {7, 5}, 0, 1, HUBQR_AREA_TOO_SHORT},
         {"Run of job (5, 6)", NULL, 0, area, 512, NULL, 0, {5, 6}, 9, 1, HUBQR_NO_SUCH_JOB},
         {"Run of job (5, 6), request 0", NULL, 0, area, 512, NULL, 0, {5, 6}, 9, 0, HUBQR_NO_SUCH_JOB},
-        {"Run of job (5, 6) in a round used up", NULL, 0, area, 512, NULL, 0, {5, 6}, 0, 1, HUBQR_NO_SUCH_JOB},
-        {"Run of job (0, 1) in a round used up", NULL, 0, area, 512, NULL, 0, {0, 1}, 0, 65535, HUBQR_NO_SUCH_JOB},
+        {"Run of job (5, 6), none left", NULL, 0, area, 512, NULL, 0, {5, 6}, 0, 1, HUBQR_NO_SUCH_JOB},
+        {"Run of job (0, 1), none left", NULL, 0, area, 512, NULL, 0, {0, 1}, 0, 65535, HUBQR_NO_SUCH_JOB},
         {"Run of job (120, 121)", NULL, 0, area, 512, NULL, 0, {120, 121}, 65535, 1, HUBQR_NO_SUCH_JOB},
         {"Run of job (121, 0)", NULL, 0, area, 512, NULL, 0, {121, 0}, 120, 65535, HUBQR_NO_SUCH_JOB},
         {"Run of the largest numbers", NULL, 0, area, 512, NULL, 0, {UINT32_MAX, UINT32_MAX}, 0, 1, HUBQR_NO_SUCH_JOB},
-        {"Run in a round used up", NULL, 0, area, 512, NULL, 0, {7, 5}, 0, 1, HUBQR_ROUND_USED_UP},
-        {"Run in a round used up, all requested", NULL, 0, area, 512, NULL, 0, {0, 0}, 0, 65535, HUBQR_ROUND_USED_UP},
-        {"Run of the last turn in a round used up", NULL, 0, area, 512, NULL, 0, {119, 119}, 0, 1, HUBQR_ROUND_USED_UP},
-        {"Run of 256 turns in a round used up", NULL, 0, area, 512, NULL, 0, {119, 0}, 0, 256, HUBQR_ROUND_USED_UP},
+        {"Run, none left", NULL, 0, area, 512, NULL, 0, {7, 5}, 0, 1, HUBQR_COUNT_USED_UP},
+        {"Run of all turns, none left", NULL, 0, area, 512, NULL, 0, {0, 0}, 0, 65535, HUBQR_COUNT_USED_UP},
+        {"Run of the last turn, none left", NULL, 0, area, 512, NULL, 0, {119, 119}, 0, 1, HUBQR_COUNT_USED_UP},
+        {"Run of 256 turns, none left", NULL, 0, area, 512, NULL, 0, {119, 0}, 0, 256, HUBQR_COUNT_USED_UP},
     };
     scribble();
     REFUSE_ALL(refuse_run, table);
@@ -191,6 +193,56 @@ static void test_heard_byte(void)
     REFUSE_ALL(refuse_heard, table);
 }
 
+/* Shares that must be refused, at a new desk, at one whose sectors differ, and at one that has above 120 itself. */
+static void refuse_shares(const char *what, struct hubqr_shares shares)
+{
+    struct hubqr_desk desks[3] = {hubqr_desk_new(), desk_of(&(struct handed){0}, 3)};
+    memset(&desks[2], 0xff, sizeof desks[2]);
+    for (size_t n = 0; n < sizeof desks / sizeof *desks; n++) {
+        struct hubqr_desk kept = desks[n];
+        struct hubqr_desk_reply reply = hubqr_desk_set_shares(desks[n], shares);
+        CHECK(what, reply.number == HUBQR_SHARES_EXCEED_ROUND && same_desk(&reply.desk, &desks[n]));
+        CHECK(what, hubqr_desk_set_shares_at(&kept, shares) == HUBQR_SHARES_EXCEED_ROUND && same_desk(&kept, &desks[n]));
+    }
+}
+
+/* Totals just above 120 and far above it. Among them are some that 8 or 16 bits would cut to 120 or less. */
+static void test_shares(void)
+{
+    static const struct hubqr_shares table[] = {
+        {{15, 15, 15, 15, 15, 15, 15, 16}},
+        {{16, 15, 15, 15, 15, 15, 15, 15}},
+        {{1, 2, 3, 4, 5, 6, 7, 93}},
+        {{60, 0, 0, 0, 0, 0, 0, 61}},
+        {{0, 0, 0, 120, 1, 0, 0, 0}},
+        {{32, 32, 32, 32, 32, 32, 32, 32}},
+        {{128, 0, 0, 0, 0, 128, 0, 0}},
+        {{0, 65535, 0, 0, 0, 0, 1, 0}},
+        {{0, 0, 32768, 0, 0, 0, 0, 32768}},
+        {{65535, 121, 0, 0, 0, 0, 0, 0}},
+        {{8192, 8192, 8192, 8192, 8192, 8192, 8192, 8192}},
+        {{8207, 8207, 8207, 8207, 8207, 8207, 8207, 8207}},
+        {{65535, 65535, 65535, 65535, 65535, 65535, 65535, 65535}},
+    };
+    static const uint16_t single[] = {121, 255, 256, 376, 32767, 32768, 65416, 65535};
+    for (size_t n = 0; n < sizeof table / sizeof *table; n++) {
+        refuse_shares("shares above 120 in total", table[n]);
+    }
+    for (int k = 0; k < HUBQR_SECTORS; k++) {
+        for (size_t n = 0; n < sizeof single / sizeof *single; n++) {
+            struct hubqr_shares shares = {{0}};
+            shares.shares[k] = single[n];
+            refuse_shares("one share above 120", shares);
+        }
+        for (uint16_t share = 1; share <= HUBQR_ROUND_TURNS; share++) {
+            struct hubqr_shares shares = {{0}};
+            shares.shares[k] = share;
+            shares.shares[(k + 5) % HUBQR_SECTORS] = (uint16_t)(121 - share);
+            refuse_shares("two shares of 121 in total", shares);
+        }
+    }
+}
+
 void test_desk_refused(void)
 {
     make_matrix(matrix);
@@ -199,4 +251,5 @@ void test_desk_refused(void)
     test_run();
     test_fetch();
     test_heard_byte();
+    test_shares();
 }

@@ -11,6 +11,7 @@ _Static_assert(HUBQR_MATRIX_RECORD_BYTES == 1 + 64 * 4, "64 elements of four byt
 _Static_assert(HUBQR_SUM_WORDS == 2 * HUBQR_ANTENNAS * HUBQR_ANTENNAS, "a real and an imaginary sum for each element");
 _Static_assert(HUBQR_MATRIX_RECORD_BYTES == 1 + 2 * HUBQR_SUM_WORDS, "a part of two bytes for each sum behind the kind byte");
 _Static_assert(HUBQR_ROUND_TURNS == HUBQR_TURNS, "a round has the turns of one matrix");
+_Static_assert(HUBQR_SECTORS * HUBQR_FIRST_SHARE == HUBQR_ROUND_TURNS, "the first shares are the whole of a round");
 _Static_assert(HUBQR_RESULT_RECORD_BYTES == 1 + HUBQR_AREA_WORDS * 4, "the area's words behind the kind byte");
 
 /* The numbers of the refusals, in the header's order. */
@@ -30,8 +31,9 @@ static void test_words(void)
                                "the turn number is above 120, or less than the turns made") == 0);
     CHECK("words of 11", strcmp(hubqr_refusal_words(HUBQR_ZERO_DIAGONAL), "one of R's 16 diagonal words is 0") == 0);
     CHECK("words of 12", strcmp(hubqr_refusal_words(HUBQR_NO_SUCH_SECTOR), "the sector is above 7") == 0);
-    CHECK("words of 13", strcmp(hubqr_refusal_words(HUBQR_ROUND_USED_UP),
-                                "turns are requested for an unfinished job, and the round has none left") == 0);
+    CHECK("words of 13", strcmp(hubqr_refusal_words(HUBQR_COUNT_USED_UP),
+                                "turns are requested for an unfinished job, and the sector has none left in the round") == 0);
+    CHECK("words of 14", strcmp(hubqr_refusal_words(HUBQR_SHARES_EXCEED_ROUND), "the shares are above 120 in total") == 0);
     for (int k = 0; k < REFUSALS; k++) {
         CHECK("refusals are numbered from 1 on", numbers[k] == k + 1);
         for (int other = 0; other < k; other++) {

@@ -58,32 +58,36 @@ SIZE(hubqr_weights_reply, 136);
 PLACE(hubqr_weights_reply, number, 0);
 PLACE(hubqr_weights_reply, weights, 8);
 
-SIZE(hubqr_desk, 76);
+SIZE(hubqr_desk, 104);
 PLACE(hubqr_desk, jobs, 0);
 PLACE(hubqr_desk, heard, 64);
-PLACE(hubqr_desk, left, 72);
+PLACE(hubqr_desk, shares, 72);
+PLACE(hubqr_desk, left, 88);
 
-SIZE(hubqr_desk_reply, 80);
+SIZE(hubqr_desk_reply, 108);
 PLACE(hubqr_desk_reply, desk, 0);
-PLACE(hubqr_desk_reply, number, 76);
+PLACE(hubqr_desk_reply, number, 104);
 
-SIZE(hubqr_desk_load_reply, 88);
+SIZE(hubqr_shares, 16);
+PLACE(hubqr_shares, shares, 0);
+
+SIZE(hubqr_desk_load_reply, 116);
 PLACE(hubqr_desk_load_reply, desk, 0);
-PLACE(hubqr_desk_load_reply, number, 76);
-PLACE(hubqr_desk_load_reply, heard, 77);
-PLACE(hubqr_desk_load_reply, job, 80);
+PLACE(hubqr_desk_load_reply, number, 104);
+PLACE(hubqr_desk_load_reply, heard, 105);
+PLACE(hubqr_desk_load_reply, job, 108);
 
-SIZE(hubqr_desk_run_reply, 100);
+SIZE(hubqr_desk_run_reply, 128);
 PLACE(hubqr_desk_run_reply, desk, 0);
-PLACE(hubqr_desk_run_reply, number, 76);
-PLACE(hubqr_desk_run_reply, job, 80);
-PLACE(hubqr_desk_run_reply, count, 88);
-PLACE(hubqr_desk_run_reply, clamps_r, 92);
-PLACE(hubqr_desk_run_reply, clamps_q, 96);
+PLACE(hubqr_desk_run_reply, number, 104);
+PLACE(hubqr_desk_run_reply, job, 108);
+PLACE(hubqr_desk_run_reply, count, 116);
+PLACE(hubqr_desk_run_reply, clamps_r, 120);
+PLACE(hubqr_desk_run_reply, clamps_q, 124);
 
-SIZE(hubqr_desk_heard_reply, 80);
+SIZE(hubqr_desk_heard_reply, 108);
 PLACE(hubqr_desk_heard_reply, desk, 0);
-PLACE(hubqr_desk_heard_reply, number, 76);
-PLACE(hubqr_desk_heard_reply, heard, 77);
+PLACE(hubqr_desk_heard_reply, number, 104);
+PLACE(hubqr_desk_heard_reply, heard, 105);
 
 #endif

@@ -106,7 +106,8 @@ static bool weighted()
            zero.number == HUBQR_ZERO_DIAGONAL && zero.weights[2].im == 0;
 }
 
-// A sector works through a round. The matrix has nothing but (17, 0) at (0, 0), so that its turns are skipped, and paid.
+// A sector works through rounds by its share. The matrix has nothing but (17, 0) at (0, 0), so that its turns are skipped, and
+// paid.
 static bool served()
 {
     record.fill(0);
@@ -115,35 +116,53 @@ static bool served()
     hubqr_desk desk = hubqr_desk_new();
     auto loaded = hubqr_desk_load(desk, 7, record.data(), record.size(), area.data(), area.size());
     desk = loaded.desk;
-    bool begun = loaded.number == HUBQR_ACCEPTED && loaded.heard == 1 && is_job(loaded.job, 0, 0) && desk.left == 120;
-    auto ran = hubqr_desk_run(desk, 7, 100, area.data(), area.size());
-    bool granted = ran.number == HUBQR_ACCEPTED && ran.count == 100 && is_job(ran.desk.jobs[7], 100, 0) && ran.desk.left == 20;
-    auto rest = hubqr_desk_run_at(&ran.desk, 7, 100, area.data(), area.size());
-    bool finished = rest.number == HUBQR_ACCEPTED && rest.count == 20 && ran.desk.left == 0;
-    auto fetched = hubqr_desk_fetch(ran.desk, 7, area.data(), area.size(), buffer.data(), buffer.size());
-    return begun && granted && finished && fetched.number == HUBQR_ACCEPTED && buffer[0] == HUBQR_KIND_RESULT &&
-           hubqr_desk_fetch_at(&ran.desk, 7, area.data(), area.size(), buffer.data(), 0) == HUBQR_BUFFER_TOO_SHORT;
+    bool begun = loaded.number == HUBQR_ACCEPTED && loaded.heard == 1 && is_job(loaded.job, 0, 0) && desk.left[7] == 15;
+    auto ran = hubqr_desk_run(desk, 7, 10, area.data(), area.size());
+    desk = ran.desk;
+    bool granted = ran.number == HUBQR_ACCEPTED && ran.count == 10 && is_job(desk.jobs[7], 10, 0) && desk.left[7] == 5;
+    bool shared = hubqr_desk_set_shares_at(&desk, {{0, 0, 0, 0, 0, 0, 0, 120}}) == HUBQR_ACCEPTED && desk.left[7] == 5;
+    bool next = hubqr_desk_begin_at(&desk) == HUBQR_ACCEPTED && desk.left[7] == 120 && desk.left[6] == 0;
+    auto rest = hubqr_desk_run_at(&desk, 7, 120, area.data(), area.size());
+    bool finished = rest.number == HUBQR_ACCEPTED && rest.count == 110 && desk.left[7] == 10;
+    auto fetched = hubqr_desk_fetch(desk, 7, area.data(), area.size(), buffer.data(), buffer.size());
+    return begun && granted && shared && next && finished && fetched.number == HUBQR_ACCEPTED && buffer[0] == HUBQR_KIND_RESULT &&
+           hubqr_desk_fetch_at(&desk, 7, area.data(), area.size(), buffer.data(), 0) == HUBQR_BUFFER_TOO_SHORT;
 }
 
-// The round is used up for sector 0, which is loaded then, until the next one begins; and there is no sector 256.
+// The count of sector 0, which is loaded then, is used up until the next round begins; and there is no sector 256.
 static bool turned_away()
 {
     hubqr_desk desk = hubqr_desk_begin(hubqr_desk_new()).desk;
-    desk.left = 0;
+    desk.left[0] = 0;
     auto loaded = hubqr_desk_load_at(&desk, 0, record.data(), record.size(), area.data(), area.size());
     auto ran = hubqr_desk_run_at(&desk, 0, 1, area.data(), area.size());
-    bool used_up = ran.number == HUBQR_ROUND_USED_UP && is_job(ran.job, 0, 0) && ran.count == 0 && desk.left == 0;
-    bool next = hubqr_desk_begin_at(&desk) == HUBQR_ACCEPTED && desk.left == HUBQR_ROUND_TURNS;
+    bool used_up = ran.number == HUBQR_COUNT_USED_UP && is_job(ran.job, 0, 0) && ran.count == 0 && desk.left[0] == 0;
+    bool next = hubqr_desk_begin_at(&desk) == HUBQR_ACCEPTED && desk.left[0] == HUBQR_FIRST_SHARE;
     auto heard = hubqr_desk_heard(desk, 0), none = hubqr_desk_heard_at(&desk, 256);
     return loaded.number == HUBQR_ACCEPTED && used_up && next && heard.number == HUBQR_ACCEPTED && heard.heard == 1 &&
            none.number == HUBQR_NO_SUCH_SECTOR && none.heard == 0;
+}
+
+// 121 turns are no shares of a round, however they are dealt out, and 120 are.
+static bool shared_out()
+{
+    hubqr_shares shares{{15, 15, 15, 15, 15, 15, 15, 16}};
+    hubqr_desk desk = hubqr_desk_new();
+    auto refused = hubqr_desk_set_shares(desk, shares);
+    bool by_pointer = hubqr_desk_set_shares_at(&desk, shares) == HUBQR_SHARES_EXCEED_ROUND;
+    bool kept = desk.shares[7] == HUBQR_FIRST_SHARE && refused.desk.shares[7] == HUBQR_FIRST_SHARE;
+    shares.shares[0] = 14;
+    auto accepted = hubqr_desk_set_shares(desk, shares);
+    bool set = std::equal(shares.shares, shares.shares + HUBQR_SECTORS, accepted.desk.shares);
+    return refused.number == HUBQR_SHARES_EXCEED_ROUND && by_pointer && kept && accepted.number == HUBQR_ACCEPTED && set &&
+           accepted.desk.left[0] == 15 && hubqr_desk_begin(accepted.desk).desk.left[0] == 14;
 }
 
 int main()
 {
     bool named = hubqr_version() == HUBQR_VERSION && hubqr_refusal_words(HUBQR_ACCEPTED) == std::string_view("accepted");
     bool calls = accepted() && in_instalments() && clamped() && refused() && covariance() && weighted();
-    bool holds = calls && served() && turned_away() && named;
+    bool holds = calls && served() && turned_away() && shared_out() && named;
     std::puts(holds ? "hubqr C++ face: passed" : "hubqr C++ face: FAILED");
     return holds ? 0 : 1;
 }

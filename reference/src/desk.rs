@@ -1,8 +1,8 @@
-//! The desk: eight sectors, each with a job of its own, share the turns of a round.
+//! The desk: eight sectors, each with a job of its own and its own share of the turns of a round.
 //!
 //! The desk has a seat for each sector, a value of its own with all that the desk knows of that
-//! sector. A call takes the seat, does the factorization's own call with its job, and seats the
-//! sector anew. All calls answer alike: what one of them does not speak of is 0.
+//! sector, and is nothing else. A call takes the seat, does the factorization's own call with its
+//! job, and seats the sector anew. All calls answer alike: what one of them does not speak of is 0.
 
 use crate::calls;
 use crate::clamps::Clamps;
@@ -13,37 +13,60 @@ use crate::schedule::TURNS;
 /// Sectors of a hub.
 pub const SECTORS: usize = 8;
 
-/// Turns that a round has for all sectors together.
+/// What the shares of all sectors are at most, together.
 pub const ROUND_TURNS: u16 = 120;
+
+/// The share that each sector has at first.
+pub const FIRST_SHARE: u16 = 15;
 
 /// What the desk knows of one sector.
 #[derive(Debug, Clone, Copy, PartialEq, Eq)]
 pub struct Seat {
     pub job: Job,
     pub heard: u8,
+    /// The turns that the sector gets when a round begins.
+    pub share: u16,
+    /// The turns that it has left in the round.
+    pub left: u16,
 }
 
 impl Seat {
-    /// That of a sector never loaded.
-    pub const NEVER_LOADED: Seat = Seat {
+    /// That of a sector never loaded, at the start of the first round.
+    pub const NEW: Seat = Seat {
         job: Job::new(TURNS, 0),
         heard: 0,
+        share: FIRST_SHARE,
+        left: FIRST_SHARE,
     };
+
+    /// The seat when a round begins. What was left is lost.
+    fn refilled(self) -> Self {
+        Seat {
+            left: self.share,
+            ..self
+        }
+    }
+
+    /// Test 13, of a job that exists.
+    fn test_count(self, request: u16) -> Result<(), Refusal> {
+        if request > 0 && !self.job.is_finished() && self.left == 0 {
+            Err(Refusal::CountUsedUp)
+        } else {
+            Ok(())
+        }
+    }
 }
 
 /// What a host keeps for all sectors and hands from call to call. Anything may be handed in.
 #[derive(Debug, Clone, Copy, PartialEq, Eq)]
 pub struct Desk {
     pub seats: [Seat; SECTORS],
-    /// The turns that the round has left.
-    pub left: u16,
 }
 
 impl Desk {
     /// A new desk, which stands at the start of a round.
     pub const NEW: Desk = Desk {
-        seats: [Seat::NEVER_LOADED; SECTORS],
-        left: ROUND_TURNS,
+        seats: [Seat::NEW; SECTORS],
     };
 
     /// Test 12, and the seat of a sector.
@@ -97,10 +120,22 @@ impl DeskReply {
 
 /// Begins a round.
 pub fn begin(desk: &Desk) -> DeskReply {
-    DeskReply::from(Desk {
-        left: ROUND_TURNS,
-        ..*desk
-    })
+    let seats = desk.seats.map(Seat::refilled);
+    DeskReply::from(Desk { seats })
+}
+
+/// Sets all shares, that of sector k at place k. What the sectors have left is that of the round
+/// that has begun.
+pub fn set_shares(desk: &Desk, shares: &[u16; SECTORS]) -> DeskReply {
+    let total: u32 = shares.iter().map(|share| u32::from(*share)).sum();
+    if total > ROUND_TURNS.into() {
+        return DeskReply::refused(Refusal::Shares, desk);
+    }
+    let mut desk = *desk;
+    for (seat, share) in desk.seats.iter_mut().zip(shares) {
+        seat.share = *share;
+    }
+    DeskReply::from(desk)
 }
 
 /// A sector's Load, whatever its job was.
@@ -110,7 +145,7 @@ pub fn load(desk: &Desk, sector: u32, record: &[u8], area: &mut [i32]) -> DeskRe
 }
 
 /// A sector's Run: of the turns that its job has left it makes at most the request, and at most
-/// what the round has left.
+/// what the sector has left in the round.
 pub fn run(desk: &Desk, sector: u32, request: u16, area: &mut [i32]) -> DeskReply {
     let reply = accept_run(desk, sector, request, area);
     reply.unwrap_or_else(|refusal| DeskReply::refused(refusal, desk))
@@ -139,13 +174,14 @@ fn accept_load(
     record: &[u8],
     area: &mut [i32],
 ) -> Result<DeskReply, Refusal> {
-    desk.seat(sector)?;
+    let seat = desk.seat(sector)?;
     let loaded = calls::accept_load(record, area)?;
     let (job, heard) = (loaded.job, loaded.heard);
+    let seat = Seat { job, heard, ..seat };
     Ok(DeskReply {
         heard,
         job,
-        ..DeskReply::from(desk.seated(sector, Seat { job, heard }))
+        ..DeskReply::from(desk.seated(sector, seat))
     })
 }
 
@@ -158,18 +194,16 @@ fn accept_run(
     let seat = desk.seat(sector)?;
     calls::lent_area(area)?;
     calls::test_job(seat.job)?;
-    test_round(desk, seat.job, request)?;
-    let ran = calls::accept_run(seat.job, request.min(desk.left), area)?;
+    seat.test_count(request)?;
+    let ran = calls::accept_run(seat.job, request.min(seat.left), area)?;
     let (job, count) = (ran.job, ran.count);
-    let granted = Desk {
-        left: desk.left - count as u16,
-        ..desk.seated(sector, Seat { job, ..seat })
-    };
+    let left = seat.left - count as u16;
+    let seat = Seat { job, left, ..seat };
     Ok(DeskReply {
         job,
         count,
         clamps: ran.clamps,
-        ..DeskReply::from(granted)
+        ..DeskReply::from(desk.seated(sector, seat))
     })
 }
 
@@ -182,15 +216,6 @@ fn accept_fetch(
     let seat = desk.seat(sector)?;
     calls::accept_fetch(seat.job, area, buffer)?;
     Ok(DeskReply::from(*desk))
-}
-
-/// Test 13, of a job that exists.
-fn test_round(desk: &Desk, job: Job, request: u16) -> Result<(), Refusal> {
-    if request > 0 && !job.is_finished() && desk.left == 0 {
-        Err(Refusal::RoundUsedUp)
-    } else {
-        Ok(())
-    }
 }
 
 #[cfg(test)]
@@ -206,79 +231,113 @@ mod tests {
         })
     }
 
-    #[test]
-    fn a_new_desk_has_nobody_loaded_and_all_turns_left() {
-        let seat = Seat {
-            job: Job::new(120, 0),
-            heard: 0,
-        };
-        assert_eq!((Desk::NEW.seats, Desk::NEW.left), ([seat; 8], 120));
+    /// What each sector has left.
+    fn left(desk: &Desk) -> [u16; 8] {
+        desk.seats.map(|seat| seat.left)
     }
 
     #[test]
-    fn a_load_seats_its_sector_and_leaves_the_round() {
-        let mut area = [0; 512];
-        let desk = Desk {
-            left: 7,
-            ..Desk::NEW
+    fn a_new_desk_has_nobody_loaded_and_15_turns_for_each() {
+        let seat = Seat {
+            job: Job::new(120, 0),
+            heard: 0,
+            share: 15,
+            left: 15,
         };
+        assert_eq!(Desk::NEW.seats, [seat; 8]);
+    }
+
+    #[test]
+    fn a_round_refills_each_count_from_its_share_and_adds_nothing() {
+        let desk = |left: fn(u16) -> u16| Desk {
+            seats: [0, 1, 2, 3, 4, 5, 6, 7].map(|k| Seat {
+                heard: k as u8,
+                share: 9_000 * k,
+                left: left(k),
+                ..Seat::NEW
+            }),
+        };
+        let reply = begin(&desk(|k| 7 - k));
+        assert_eq!(reply, DeskReply::from(desk(|k| 9_000 * k)));
+    }
+
+    /// The total is exact: 65,535 and 1 are not 0.
+    #[test]
+    fn shares_are_set_up_to_120_in_total_and_count_later() {
+        for shares in [[15; 8], [0; 8], [120, 0, 0, 0, 0, 0, 0, 0], [8; 8]] {
+            let reply = set_shares(&Desk::NEW, &shares);
+            assert_eq!((reply.number, left(&reply.desk)), (0, [15; 8]));
+            assert_eq!(reply.desk.seats.map(|seat| seat.share), shares);
+            assert_eq!(left(&begin(&reply.desk).desk), shares);
+        }
+        let refused = DeskReply::refused(Refusal::Shares, &Desk::NEW);
+        assert_eq!((refused.number, refused.desk), (14, Desk::NEW));
+        for shares in [[16; 8], [65_535; 8], [8_192; 8], [0, 0, 0, 0, 0, 0, 0, 121]] {
+            assert_eq!(set_shares(&Desk::NEW, &shares), refused);
+        }
+        let wrapping = [65_535, 0, 0, 0, 0, 0, 0, 1];
+        assert_eq!(set_shares(&Desk::NEW, &wrapping), refused);
+    }
+
+    #[test]
+    fn a_load_seats_its_sector_and_leaves_the_counts() {
+        let mut area = [0; 512];
+        let mut desk = Desk::NEW;
+        (desk.seats[3].share, desk.seats[3].left) = (9, 7);
         let reply = load(&desk, 3, &RECORD, &mut area);
         assert_eq!((reply.number, reply.heard), (0, 255));
         assert_eq!((reply.job, reply.count), (Job::new(0, 0), 0));
-        for (sector, seat) in reply.desk.seats.iter().enumerate() {
-            let job = Job::new(if sector == 3 { 0 } else { 120 }, 0);
-            let heard = if sector == 3 { 255 } else { 0 };
-            assert_eq!(*seat, Seat { job, heard });
-        }
-        assert_eq!(reply.desk.left, 7);
+        (desk.seats[3].job, desk.seats[3].heard) = (Job::new(0, 0), 255);
+        assert_eq!(reply.desk, desk);
         let reply = load(&reply.desk, 3, &[1], &mut area);
         assert_eq!((reply.number, reply.heard), (2, 0));
     }
 
-    /// The smallest of the request, what the round has left and what the job has left.
+    /// The smallest of the request, what the sector has left and what its job has left. Nobody else
+    /// pays.
     #[test]
     fn a_run_is_granted_the_smallest_of_three() {
         let mut area = [0; 512];
         let mut desk = loaded(&[0, 1], &mut area);
-        for (sector, request, count, left) in [
-            (0, 50, 50, 70),
-            (1, 0, 0, 70),
-            (0, 65_535, 70, 0),
-            (0, 0, 0, 0),
-            (1, 0, 0, 0),
-            (2, 9, 0, 0),
+        (desk.seats[0].left, desk.seats[1].left) = (130, 20);
+        for (sector, request, count, of_0, of_1) in [
+            (0, 50, 50, 80, 20),
+            (1, 0, 0, 80, 20),
+            (1, 21, 20, 80, 0),
+            (0, 65_535, 70, 10, 0),
+            (0, 9, 0, 10, 0),
+            (1, 0, 0, 10, 0),
+            (2, 9, 0, 10, 0),
         ] {
             let reply = run(&desk, sector, request, &mut area);
             assert_eq!((reply.number, reply.count), (0, count));
-            assert_eq!(reply.desk.left, left);
             desk = reply.desk;
+            assert_eq!(left(&desk), [of_0, of_1, 15, 15, 15, 15, 15, 15]);
         }
         assert_eq!(desk.seats[0].job.turn, 120);
-        let refused = DeskReply::refused(Refusal::RoundUsedUp, &desk);
+        let refused = DeskReply::refused(Refusal::CountUsedUp, &desk);
         assert_eq!(run(&desk, 1, 1, &mut area), refused);
         assert_eq!((refused.number, refused.job), (13, Job::new(0, 0)));
         desk = begin(&desk).desk;
         let reply = run(&desk, 1, 9, &mut area);
-        assert_eq!((reply.count, reply.desk.left), (9, 111));
+        assert_eq!((reply.count, reply.desk.seats[1].left), (9, 6));
     }
 
     #[test]
     fn a_run_makes_its_tests_in_order() {
         let (short, full) = (&mut [0; 511][..], &mut [0; 512][..]);
-        let seat = |turn, made| Seat {
-            job: Job::new(turn, made),
-            heard: 9,
+        let desk = |turn, made| {
+            let mut desk = Desk::NEW;
+            desk.seats[7].job = Job::new(turn, made);
+            desk.seats[7].left = 0;
+            desk
         };
-        let desk = |seat| Desk {
-            seats: [seat; SECTORS],
-            left: 0,
-        };
-        assert_eq!(run(&desk(seat(5, 6)), 8, 1, short).number, 12);
-        assert_eq!(run(&desk(seat(5, 6)), 7, 1, short).number, 3);
-        assert_eq!(run(&desk(seat(5, 6)), 7, 1, full).number, 5);
-        assert_eq!(run(&desk(seat(5, 5)), 7, 1, full).number, 13);
-        assert_eq!(run(&desk(seat(5, 5)), 7, 0, full).number, 0);
-        assert_eq!(run(&desk(seat(120, 5)), 7, 1, full).number, 0);
+        assert_eq!(run(&desk(5, 6), 8, 1, short).number, 12);
+        assert_eq!(run(&desk(5, 6), 7, 1, short).number, 3);
+        assert_eq!(run(&desk(5, 6), 7, 1, full).number, 5);
+        assert_eq!(run(&desk(5, 5), 7, 1, full).number, 13);
+        assert_eq!(run(&desk(5, 5), 7, 0, full).number, 0);
+        assert_eq!(run(&desk(120, 5), 7, 1, full).number, 0);
     }
 
     #[test]

@@ -31,8 +31,10 @@ pub enum Refusal {
     ZeroDiagonal = 11,
     /// The sector is above 7.
     Sector = 12,
-    /// A request above 0 for an unfinished job, and the round has no turn left.
-    RoundUsedUp = 13,
+    /// A request above 0 for an unfinished job, and the sector has no turn left in the round.
+    CountUsedUp = 13,
+    /// The shares of all sectors are above 120 in total.
+    Shares = 14,
 }
 
 impl Refusal {

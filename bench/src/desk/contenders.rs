@@ -1,7 +1,7 @@
 //! Who is timed: desks, which have to agree in every field of the reply and every word of the area,
 //! and the engine without a desk.
 
-use hubqr::ffi::{self, DeskReply, DeskRunReply, RunReply};
+use hubqr::ffi::{self, DeskReply, DeskRunReply, RunReply, Shares};
 use hubqr::Desk;
 
 use super::{agree, versions};
@@ -10,9 +10,12 @@ use super::{agree, versions};
 #[derive(Clone, Copy)]
 pub struct Contender {
     pub name: &'static str,
-    /// Begins a round.
-    pub begin: fn(&mut Desk),
-    /// A sector's Run. It leaves the desk as the host keeps it for the next call.
+    /// Begins a round, and answers the number. As all calls, it leaves the desk as the host keeps it
+    /// for the next one.
+    pub begin: fn(&mut Desk) -> u8,
+    /// Sets all shares, and answers the number.
+    pub set_shares: fn(&mut Desk, Shares) -> u8,
+    /// A sector's Run.
     pub run: fn(&mut Desk, u32, u16, &mut [i32]) -> RunReply,
 }
 
@@ -24,9 +27,11 @@ impl Contender {
     }
 }
 
-/// Begins a round by a call that takes and answers the desk by value.
-pub fn begun(desk: &mut Desk, begin: impl FnOnce(Desk) -> DeskReply) {
-    *desk = begin(desk.clone()).desk;
+/// Keeps the desk of a call that takes and answers it by value, and answers the number.
+pub fn kept(desk: &mut Desk, call: impl FnOnce(Desk) -> DeskReply) -> u8 {
+    let reply = call(desk.clone());
+    *desk = reply.desk;
+    reply.number
 }
 
 /// Runs by a call that takes and answers the desk by value. The reply is that of a Run without it.
@@ -46,7 +51,13 @@ pub fn ran(desk: &mut Desk, run: impl FnOnce(Desk) -> DeskRunReply) -> RunReply 
 pub const ENGINE: Contender = Contender {
     name: "engine",
     // SAFETY: the call takes and answers values alone.
-    begin: |desk| begun(desk, |desk| unsafe { ffi::hubqr_desk_begin(desk) }),
+    begin: |desk| kept(desk, |desk| unsafe { ffi::hubqr_desk_begin(desk) }),
+    // SAFETY: the call takes and answers values alone.
+    set_shares: |desk, shares| {
+        kept(desk, |desk| unsafe {
+            ffi::hubqr_desk_set_shares(desk, shares)
+        })
+    },
     // SAFETY: the call reads and writes the area alone.
     run: |desk, sector, request, area| {
         let (words, length) = (area.as_mut_ptr(), area.len());
@@ -56,11 +67,12 @@ pub const ENGINE: Contender = Contender {
     },
 };
 
-/// The engine's own Run, for a host that keeps the jobs of its sectors and nothing else. All others
-/// are compared with it.
+/// The engine's own Run, for a host that keeps the jobs of its sectors and nothing else: it has
+/// neither rounds nor shares. All others are compared with it.
 pub const BASE: Contender = Contender {
     name: "engine, no desk",
-    begin: |_| {},
+    begin: |_| 0,
+    set_shares: |_, _| 0,
     // SAFETY: the call reads and writes the area alone.
     run: |desk, sector, request, area| {
         let job = &mut desk.jobs[sector as usize];

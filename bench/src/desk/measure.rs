@@ -3,46 +3,58 @@
 use std::hint::black_box;
 use std::time::Instant;
 
-use hubqr::{AREA_WORDS, ROUND_TURNS, SECTORS};
+use hubqr::ffi::Shares;
+use hubqr::{AREA_WORDS, FIRST_SHARE, ROUND_TURNS, SECTORS};
 use reference::random::Random;
 
 use super::agree::loaded;
-use super::contenders::Contender;
+use super::contenders::{Contender, BASE};
 use crate::contenders::{Area, ACCEPTED, ENGINE};
 use crate::inputs;
 
-/// The turns that a sector has of a round that all share evenly.
-pub const EVEN: u16 = ROUND_TURNS / SECTORS as u16;
+/// The shares that are set.
+const SHARES: Shares = Shares {
+    shares: [1, 2, 3, 4, 5, 6, 7, 92],
+};
 
 #[derive(Clone, Copy, PartialEq, Eq)]
 pub enum Measure {
     /// A sector's Run with this request, which is granted.
     Run(u16),
-    /// A round that eight sectors share evenly: its beginning and eight Runs.
+    /// A round by the first shares: its beginning and eight Runs.
     Round,
+    /// All shares are set.
+    Shares,
 }
 
 impl Measure {
-    pub const ALL: [Measure; 4] = [
+    pub const ALL: [Measure; 5] = [
         Measure::Run(0),
         Measure::Run(1),
-        Measure::Run(EVEN),
+        Measure::Run(FIRST_SHARE),
         Measure::Round,
+        Measure::Shares,
     ];
 
+    /// Whether a contender is timed at it. A host without a desk has no shares to set.
+    pub fn is_for(self, who: &Contender) -> bool {
+        self != Measure::Shares || who.name != BASE.name
+    }
+
+    /// The turns of a Run. Where shares are set, none are requested.
     fn request(self) -> u16 {
         match self {
             Measure::Run(request) => request,
-            Measure::Round => EVEN,
+            Measure::Round => FIRST_SHARE,
+            Measure::Shares => 0,
         }
     }
 
-    /// Calls of a round.
+    /// Calls of a round, beside its beginning: those that are granted all its turns, or as many as it
+    /// has turns.
     fn calls(self) -> u16 {
-        match self {
-            Measure::Run(0) => ROUND_TURNS,
-            _ => ROUND_TURNS / self.request(),
-        }
+        let granted = ROUND_TURNS.checked_div(self.request());
+        granted.unwrap_or(ROUND_TURNS)
     }
 }
 
@@ -81,23 +93,27 @@ impl Batch {
     }
 }
 
-/// Serves the sectors one after the other, in as many rounds as each has even parts. Answers how often
-/// the measure was done.
+/// Serves the sectors one after the other, in as many rounds as the first shares take, or sets shares
+/// instead. Answers how often the measure was done.
 fn work(who: &Contender, measure: Measure, areas: &mut Areas) -> u32 {
     let (mut desk, mut number, mut done) = (loaded(), 0, 0);
     for _ in 0..SECTORS {
         match measure {
-            Measure::Run(_) => desk.left = ROUND_TURNS,
-            Measure::Round => (who.begin)(&mut desk),
+            Measure::Run(_) => desk.left = [FIRST_SHARE; SECTORS],
+            Measure::Round => number |= (who.begin)(&mut desk),
+            Measure::Shares => {}
         }
         for call in 0..measure.calls() {
             let sector = usize::from(call) % SECTORS;
             let area = &mut areas[sector];
-            number |= (who.run)(&mut desk, sector as u32, measure.request(), area).number;
+            number |= match measure {
+                Measure::Shares => (who.set_shares)(&mut desk, black_box(SHARES)),
+                _ => (who.run)(&mut desk, sector as u32, measure.request(), area).number,
+            };
         }
         done += match measure {
-            Measure::Run(_) => u32::from(measure.calls()),
             Measure::Round => 1,
+            _ => u32::from(measure.calls()),
         };
     }
     assert_eq!(number, 0, "{ACCEPTED}");
@@ -108,9 +124,9 @@ fn work(who: &Contender, measure: Measure, areas: &mut Areas) -> u32 {
 #[cfg(test)]
 mod tests {
     use super::*;
-    use crate::desk::contenders::{desks, BASE};
+    use crate::desk::contenders::desks;
 
-    /// Whoever is timed works all matrices to the end, or none by requests of 0.
+    /// Whoever is timed works all matrices to the end, or none where nothing is requested.
     #[test]
     fn all_turns_are_made_by_all() {
         let batch = Batch::fresh(&mut Random::new(1));
@@ -120,7 +136,7 @@ mod tests {
                 (work(who, measure, &mut areas), areas)
             };
             let expected = areas(&BASE);
-            assert_eq!(expected.1 == batch.timed, measure == Measure::Run(0));
+            assert_eq!(expected.1 == batch.timed, measure.request() == 0);
             for who in desks() {
                 assert!(areas(&who) == expected, "{}", who.name);
             }

@@ -1,7 +1,9 @@
 //! The table that is printed.
 
+use hubqr::FIRST_SHARE;
+
 use super::contenders::{BASE, ENGINE};
-use super::measure::{Measure, EVEN};
+use super::measure::Measure;
 use super::rounds::Results;
 use crate::report::{clock, number, ratio};
 use crate::table::Table;
@@ -38,7 +40,8 @@ pub fn everyone(results: &Results) -> Table {
 fn title(measure: Measure) -> String {
     match measure {
         Measure::Run(request) => format!("Run, request {request}"),
-        Measure::Round => format!("Round, eight times {EVEN}"),
+        Measure::Round => format!("Round, eight times {FIRST_SHARE}"),
+        Measure::Shares => "Setting shares".to_string(),
     }
 }
 
@@ -46,9 +49,9 @@ fn title(measure: Measure) -> String {
 pub fn words(results: &Results) -> String {
     format!(
         "A time is the mean over the eight rounds of a desk that work eight matrices to the end. With \
-         request 0 nothing is worked, and there are as many calls as with request 1. No desk is the \
-         engine's own Run, by a host that keeps the jobs; the ratio is to that, and nine of ten \
-         measurements lie between from and to.{}",
+         request 0 nothing is worked, and there are as many calls as with request 1; so often are \
+         shares set. No desk is the engine's own Run, by a host that keeps the jobs and has no shares; \
+         the ratio is to that, and nine of ten measurements lie between from and to.{}",
         clock(results)
     )
 }

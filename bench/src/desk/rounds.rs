@@ -11,7 +11,8 @@ pub fn measured(rounds: u64, seed: u64) -> Results {
     Times::of_rounds(rounds, seed, |round, random, times| {
         let batch = Batch::fresh(random);
         for measure in Measure::ALL {
-            for who in in_turn(everyone.iter().collect(), round) {
+            let who = everyone.iter().filter(|who| measure.is_for(who));
+            for who in in_turn(who.collect(), round) {
                 times.note(who.name, measure, batch.time(who, measure));
             }
         }

@@ -5,14 +5,16 @@
 macro_rules! compiled {
     ($prefix:ident, $name:literal) => {
         pub mod $prefix {
-            use hubqr::ffi::{DeskReply, DeskRunReply};
+            use hubqr::ffi::{DeskReply, DeskRunReply, Shares};
             use hubqr::Desk;
 
-            use crate::desk::contenders::{begun, ran, Contender};
+            use crate::desk::contenders::{kept, ran, Contender};
 
             extern "C" {
                 #[link_name = concat!(stringify!($prefix), "_desk_begin")]
                 fn desk_begin(desk: Desk) -> DeskReply;
+                #[link_name = concat!(stringify!($prefix), "_desk_set_shares")]
+                fn desk_set_shares(desk: Desk, shares: Shares) -> DeskReply;
                 #[link_name = concat!(stringify!($prefix), "_desk_run")]
                 fn desk_run(
                     desk: Desk,
@@ -26,7 +28,11 @@ macro_rules! compiled {
             pub const CONTENDER: Contender = Contender {
                 name: $name,
                 // SAFETY: the call takes and answers values alone.
-                begin: |desk| begun(desk, |desk| unsafe { desk_begin(desk) }),
+                begin: |desk| kept(desk, |desk| unsafe { desk_begin(desk) }),
+                // SAFETY: the call takes and answers values alone.
+                set_shares: |desk, shares| {
+                    kept(desk, |desk| unsafe { desk_set_shares(desk, shares) })
+                },
                 // SAFETY: the call reads and writes the area alone.
                 run: |desk, sector, request, area| {
                     let (words, length) = (area.as_mut_ptr(), area.len());

@@ -19,6 +19,7 @@ use Rattle.desk.specs.Load.{deskLoadOf}
 use Rattle.desk.specs.Run.{deskRunOf}
 use Rattle.desk.specs.Fetch.{deskFetchOf}
 use Rattle.desk.specs.Heard.{deskHeardOf}
+use Rattle.desk.specs.Shares.{setSharesOf}
 use Rattle.caller.specs.declared.HalvesReply.{HalvesReply}
 use Rattle.caller.specs.declared.AgainReply.{AgainReply}
 use Rattle.caller.specs.declared.CopyReply.{CopyReply}
@@ -98,13 +99,19 @@ pub record ServedOutcome : Type 0 where
   pub area : List ℤ
   pub buffer : List ℕ
 
--- at a new desk, for one sector: Load, Run with a request of 120, and Fetch
-unfoldable pub servedOf : ℕ → List ℕ → List ℤ → List ℕ → ServedOutcome
-servedOf sector rec area buffer =
-    let loaded = deskLoadOf newDesk sector rec area in
+-- at a new desk: shares for all, and the begin of a round; for one sector Load, Run with a request of 120, and Fetch
+unfoldable pub servedOf : List ℕ → ℕ → List ℕ → List ℤ → List ℕ → ServedOutcome
+servedOf shares sector rec area buffer =
+    let given = setSharesOf newDesk shares in
+    let begun = beginOf (given .desk) in
+    let loaded = deskLoadOf (begun .desk) sector rec area in
     let ran = deskRunOf (loaded .reply .desk) sector 120 (loaded .area) in
     let fetched = deskFetchOf (ran .reply .desk) sector (ran .area) buffer in
-    record { reply = record { load = loaded .reply; run = ran .reply; fetch = fetched .reply }; area = ran .area; buffer = fetched .buffer }
+    record {
+      reply = record { set = given; begun = begun; load = loaded .reply; run = ran .reply; fetch = fetched .reply };
+      area = ran .area;
+      buffer = fetched .buffer;
+    }
 
 pub record RoundOutcome : Type 0 where
   pub reply : RoundReply

@@ -6,6 +6,7 @@ use desk::DeskReply;
 use desk::heard::DeskHeardReply;
 use desk::load::DeskLoadReply;
 use desk::run::DeskRunReply;
+use desk::shares::Shares;
 use engine::job::Job;
 use engine::load::LoadReply;
 use engine::read::ReadReply;
@@ -52,8 +53,10 @@ pub struct WeighedReply {
     pub weights: WeightsReply,
 }
 
-// The replies of Load, Run and Fetch for a sector.
+// The replies of the setting of shares and the begin of a round, and of Load, Run and Fetch for a sector.
 pub struct ServedReply {
+    pub set: DeskReply,
+    pub begun: DeskReply,
     pub load: DeskLoadReply,
     pub run: DeskRunReply,
     pub fetch: DeskReply,
@@ -135,15 +138,30 @@ pub fn factor_and_weigh(
     }
 }
 
-// A sector is served at a new desk: Load, all turns, and Fetch. Each call is handed the desk that the one before answered.
-pub fn serve_sector(sector: u32, bytes: &[u8], area: &mut [i32], buffer: &mut [u8]) -> ServedReply
-    ensures { λ r. ⌜ record { reply = r; area = now (area .exit); buffer = now (buffer .exit) } ≡ servedOf sector (now (bytes .entry)) (now (area .entry)) (now (buffer .entry)) ⌝ }
+// A sector is served at a new desk: shares for all sectors, the round from which on they count, Load, all turns that the sector's share has, and Fetch.
+// Each call is handed the desk that the one before answered.
+pub fn serve_sector(
+    shares: Shares,
+    sector: u32,
+    bytes: &[u8],
+    area: &mut [i32],
+    buffer: &mut [u8],
+) -> ServedReply
+    ensures { λ r. ⌜ record { reply = r; area = now (area .exit); buffer = now (buffer .exit) } ≡ servedOf (shares .shares) sector (now (bytes .entry)) (now (area .entry)) (now (buffer .entry)) ⌝ }
 {
     let new = hubqr::sectors::hubqr_desk_new();
-    let load = hubqr::sectors::hubqr_desk_load(new, sector, bytes, area);
+    let set = hubqr::sectors::hubqr_desk_set_shares(new, shares);
+    let begun = hubqr::sectors::hubqr_desk_begin(set.desk);
+    let load = hubqr::sectors::hubqr_desk_load(begun.desk, sector, bytes, area);
     let run = hubqr::sectors::hubqr_desk_run(load.desk, sector, 120, area);
     let fetch = hubqr::sectors::hubqr_desk_fetch(run.desk, sector, area, buffer);
-    ServedReply { load, run, fetch }
+    ServedReply {
+        set,
+        begun,
+        load,
+        run,
+        fetch,
+    }
 }
 
 // A round begins at any desk, and a sector has turns of it, and is asked for its heard byte.

@@ -4,3 +4,4 @@ pub mod Load
 pub mod Run
 pub mod Fetch
 pub mod Heard
+pub mod Shares

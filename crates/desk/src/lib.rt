@@ -1,25 +1,30 @@
-// A desk for eight sectors over the engine: each sector has its own job, heard byte and area, and a round of 120 turns is for all of them. The host
-// keeps the desk and hands it to each call, which answers it anew. Each call tests its own input and refuses by the number of the first test that
-// fails, with the desk and every lent buffer as they were and all other fields 0.
+// A desk for eight sectors over the engine: each sector has its own job, heard byte and area, and its own share of a round of 120 turns. The host keeps
+// the desk and hands it to each call, which answers it anew. Each call tests its own input and refuses by the number of the first test that fails,
+// with the desk and every lent buffer as they were and all other fields 0.
 pub mod fetch;
 pub mod heard;
 pub mod load;
 pub mod run;
 mod sector;
+pub mod shares;
 
 use engine::job::Job;
 ghost use mathlib.Core.Path.{_≡_};
 ghost use Rattle.desk.specs.Desk.{newDesk, beginOf};
 
-// The turns of a round, for all sectors.
+// The turns of a round, for all sectors: what their shares make at most.
 pub const ROUND_TURNS: u16 = 120;
 
-// Of each sector the job and the heard byte; and the turns that the round has left.
+// The share of each sector at first.
+pub const FIRST_SHARE: u16 = 15;
+
+// Of each sector the job, the heard byte, the share, and the turns that it has left in the round.
 #[repr(C)]
 pub struct Desk {
     pub jobs: [Job; 8],
     pub heard: [u8; 8],
-    pub left: u16,
+    pub shares: [u16; 8],
+    pub left: [u16; 8],
 }
 
 // The desk after a call, and the refusal's number.
@@ -38,16 +43,18 @@ pub fn new() -> Desk
     Desk {
         jobs: [job; 8],
         heard: [0; 8],
-        left: ROUND_TURNS,
+        shares: [FIRST_SHARE; 8],
+        left: [FIRST_SHARE; 8],
     }
 }
 
-// Begins a round.
+// Begins a round: each sector's count is refilled from its share.
 pub fn begin(desk: Desk) -> DeskReply
     ensures { λ r. ⌜ r ≡ beginOf desk ⌝ }
 {
+    let shares = desk.shares;
     let mut begun = desk;
-    begun.left = ROUND_TURNS;
+    begun.left = shares;
     DeskReply {
         desk: begun,
         number: 0,

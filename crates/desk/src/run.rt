@@ -1,12 +1,13 @@
-// Run for a sector: turns of the round for its job.
+// Run for a sector: turns of its own count for its job.
 use crate::Desk;
 use crate::sector::job_at;
+use crate::sector::left_at;
 use crate::sector::paid;
 use crate::sector::sector_refusal;
 use engine::job::Job;
 ghost use mathlib.Core.Path.{_≡_};
 ghost use Prim.Native.Nat.{min};
-ghost use Rattle.desk.specs.Run.{roundTest, DeskRunOutcome, deskRunRefusal, deskRunOf};
+ghost use Rattle.desk.specs.Run.{countTest, DeskRunOutcome, deskRunRefusal, deskRunOf};
 
 // The desk after the call, the refusal's number, the sector's job, and of this call the turns, skipped ones included, the clamps in R and the clamps
 // in Q.
@@ -20,9 +21,9 @@ pub struct DeskRunReply {
     pub clamps_q: u32,
 }
 
-// The number of test 13 if it fails, else 0: turns are asked for, for an unfinished job, and the round has none left.
-fn round_refusal(job: Job, left: u16, request: u16) -> u8
-    ensures { λ r. ⌜ r ≡ roundTest job left request ⌝ }
+// The number of test 13 if it fails, else 0: turns are asked for, for an unfinished job, and the sector has none left in the round.
+fn count_refusal(job: Job, left: u16, request: u16) -> u8
+    ensures { λ r. ⌜ r ≡ countTest job left request ⌝ }
 {
     if request == 0 {
         return 0;
@@ -31,7 +32,7 @@ fn round_refusal(job: Job, left: u16, request: u16) -> u8
         return 0;
     }
     if left == 0 {
-        return refusals::ROUND_USED_UP;
+        return refusals::COUNT_USED_UP;
     }
     0
 }
@@ -49,7 +50,8 @@ fn run_refusal(desk: Desk, sector: u32, request: u16, area: &[i32]) -> u8
     if refused != 0 {
         return refused;
     }
-    round_refusal(job, desk.left, request)
+    let left = left_at(desk, sector);
+    count_refusal(job, left, request)
 }
 
 fn smaller(a: u16, b: u16) -> u16
@@ -58,7 +60,7 @@ fn smaller(a: u16, b: u16) -> u16
     if a < b { a } else { b }
 }
 
-// Takes the smallest of the request, what the round has left and what the sector's job has left; or refuses and changes nothing.
+// Takes the smallest of the request, what the sector has left in the round and what its job has left; or refuses and changes nothing.
 pub fn run(desk: Desk, sector: u32, request: u16, area: &mut [i32]) -> DeskRunReply
     ensures { λ r. ⌜ record { reply = r; area = now (area .exit) } ≡ deskRunOf desk sector request (now (area .entry)) ⌝ }
 {
@@ -73,11 +75,13 @@ pub fn run(desk: Desk, sector: u32, request: u16, area: &mut [i32]) -> DeskRunRe
             clamps_q: 0,
         };
     }
-    let budget = smaller(request, desk.left);
+    let left = left_at(desk, sector);
+    let budget = smaller(request, left);
     let reply = engine::run::run(job_at(desk, sector), budget, area);
     let job = reply.job;
     let count = reply.count;
-    let after = paid(desk, sector, job, count as u16);
+    let rest = left - count as u16;
+    let after = paid(desk, sector, job, rest);
     DeskRunReply {
         desk: after,
         number: 0,

@@ -2,8 +2,8 @@
 use crate::Desk;
 use engine::job::Job;
 ghost use mathlib.Core.Path.{_≡_};
-ghost use Prim.Native.Nat.{_<_, _≤_};
-ghost use Rattle.desk.specs.Desk.{sectorCount, sectorTest, jobAt, heardAt, seated, paid};
+ghost use Prim.Native.Nat.{_<_};
+ghost use Rattle.desk.specs.Desk.{sectorCount, sectorTest, jobAt, heardAt, leftAt, seated, paid};
 
 // The number of test 12 if it fails, else 0.
 pub fn sector_refusal(sector: u32) -> u8
@@ -31,6 +31,15 @@ pub fn heard_at(desk: Desk, sector: u32) -> u8
     heard[sector as usize]
 }
 
+// The turns that the sector has left in the round.
+pub fn left_at(desk: Desk, sector: u32) -> u16
+    requires { ⌜ sector < sectorCount ⌝ }
+    ensures { λ r. ⌜ r ≡ leftAt desk sector ⌝ }
+{
+    let left = desk.left;
+    left[sector as usize]
+}
+
 // The sector has this job and this heard byte.
 pub fn seated(desk: Desk, sector: u32, job: Job, heard: u8) -> Desk
     requires { ⌜ sector < sectorCount ⌝ }
@@ -42,14 +51,13 @@ pub fn seated(desk: Desk, sector: u32, job: Job, heard: u8) -> Desk
     seated
 }
 
-// The sector has this job, for which the round pays `count` turns.
-pub fn paid(desk: Desk, sector: u32, job: Job, count: u16) -> Desk
-    requires { ⌜ (sector < sectorCount) × (count ≤ desk .left) ⌝ }
-    ensures { λ r. ⌜ r ≡ paid desk sector job count ⌝ }
+// The sector has this job, which its own count has paid: `left` turns of it are left.
+pub fn paid(desk: Desk, sector: u32, job: Job, left: u16) -> Desk
+    requires { ⌜ sector < sectorCount ⌝ }
+    ensures { λ r. ⌜ r ≡ paid desk sector job left ⌝ }
 {
-    let left = desk.left - count;
     let mut paid = desk;
     paid.jobs[sector as usize] = job;
-    paid.left = left;
+    paid.left[sector as usize] = left;
     paid
 }

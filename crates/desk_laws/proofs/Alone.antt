@@ -9,9 +9,9 @@ use Rattle.refusals.proofs.Refusals.{first-none}
 use Rattle.engine.specs.Load.{loadBy, loadOf}
 use Rattle.engine.specs.Run.{runRefusal, runDone}
 use Rattle.engine.proofs.Taken.{all-taken}
-use Rattle.desk_laws.specs.Calls.{Lent, its, another, Call, load, run, fetch, heard, begin, Hub, new, lentWords, Answer, answer, next, after, Accepted, Kind, own, other, round, kind, Its, LentIts, OwnLent, EachLentIts}
+use Rattle.desk_laws.specs.Calls.{Lent, its, another, Call, load, run, fetch, heard, begin, setShares, Hub, new, lentWords, Answer, answer, next, after, Accepted, Kind, own, other, round, setting, kind, Its, LentIts, OwnLent, EachLentIts}
 use Rattle.desk_laws.specs.Alone.{Alone, aloneNext, aloneAfter, worksOf, works, standing, AsAlone}
-use Rattle.desk_laws.proofs.Seats.{Seat, seat, Eight, loadSeat, runSeat, loadNumber, runNumber, fetchNumber, seatGrant, ownNext, loadAnswer, runAnswer, ownAnswer, own-next, own-answer, other-passes, round-next, eight-next, eight-new}
+use Rattle.desk_laws.proofs.Seats.{Seat, seat, Eight, loadSeat, runSeat, loadNumber, runNumber, fetchNumber, seatGrant, ownNext, loadAnswer, runAnswer, ownAnswer, step, seat-next, own-answer, eight-next, eight-new}
 
 abbrev pub aloneOf : Seat → Alone
 aloneOf a = record { job = a .job; heard = a .heard; area = a .area }
@@ -49,17 +49,19 @@ own-alone a (run j request lent) u = run-alone a j request lent (runNumber a req
 own-alone a (fetch j buffer lent) u = fetch-alone (aloneOf a) j buffer lent (fetchNumber a buffer lent) 0
 own-alone a (heard j) u = refl
 own-alone a begin u = refl
+own-alone a (setShares shares eight) u = refl
 
 module _ (i : ℕ) (small : i < 8) where
   by-kind : (h : Hub) (c : Call) (k : Kind) → kind i c ≡ k → Eight (h .desk) → (k ≡ own → Accepted h c → LentIts c)
-      → standing i (next h c) ≡ aloneAfter (standing i h) (worksOf k (answer h c .number) c (answer h c .count))
+      → aloneOf (step k c (seat i h)) ≡ aloneAfter (standing i h) (worksOf k (answer h c .number) c (answer h c .count))
   unfolding afterAll
   by-kind h c own e w u =
       let r = own-answer h i small w c e in
-      ap aloneOf (own-next h i small w c e) ∙ own-alone (seat i h) c (λ z. u refl (ap (λ (x : Answer). x .number) r ∙ z))
+      own-alone (seat i h) c (λ z. u refl (ap (λ (x : Answer). x .number) r ∙ z))
       ∙ ap (λ (x : Answer). aloneAfter (standing i h) (worksOf own (x .number) c (x .count))) (sym r)
-  by-kind h c other e w u = ap aloneOf (other-passes h i c e .seat)
-  by-kind h c round e w u = ap aloneOf (round-next h i c e)
+  by-kind h c other e w u = refl
+  by-kind h c round e w u = refl
+  by-kind h c (setting s) e w u = refl
 
   alone-after : (h : Hub) (calls : List Call) → Eight (h .desk) → Along next (OwnLent i) h calls
       → standing i (after h calls) ≡ aloneAfter (standing i h) (works i h calls)
@@ -68,7 +70,7 @@ module _ (i : ℕ) (small : i < 8) where
   alone-after h (c ∷ calls) w u =
       let now = worksOf (kind i c) (answer h c .number) c (answer h c .count) in
       alone-after (next h c) calls (eight-next h c w) (u .1)
-      ∙ ap (λ (a : Alone). aloneAfter a (works i (next h c) calls)) (by-kind h c (kind i c) refl w (u .0))
+      ∙ ap (λ (a : Alone). aloneAfter a (works i (next h c) calls)) (ap aloneOf (seat-next h i small w c) ∙ by-kind h c (kind i c) refl w (u .0))
       ∙ sym (after-append aloneNext (standing i h) now (works i (next h c) calls))
 
 pub as-alone : AsAlone

@@ -2,8 +2,9 @@
 pub mod Seats
 pub mod Refusals
 pub mod Alone
-pub mod Others
+pub mod Isolation
 pub mod Rounds
 pub mod Unloaded
 pub mod Sectors
+pub mod Finish
 pub mod Served

@@ -11,12 +11,13 @@ use Rattle.refusals.specs.Refusals.{first}
 use Rattle.engine.specs.Load.{loadRefusal}
 use Rattle.engine.specs.Run.{runRefusal}
 use Rattle.engine.specs.Fetch.{fetchRefusal, fetchBy}
-use Rattle.desk.specs.Desk.{sectorTest, jobAt, beginOf}
+use Rattle.desk.specs.Desk.{sectorTest, jobAt, leftAt, beginOf}
 use Rattle.desk.specs.Load.{deskLoadRefusal, deskLoadBy, deskLoadOf}
-use Rattle.desk.specs.Run.{roundTest, deskRunRefusal, deskRunDone, deskRunBy, deskRunOf}
+use Rattle.desk.specs.Run.{countTest, deskRunRefusal, deskRunDone, deskRunBy, deskRunOf}
 use Rattle.desk.specs.Fetch.{deskFetchRefusal, deskFetchBy, deskFetchOf}
 use Rattle.desk.specs.Heard.{deskHeardBy, deskHeardOf}
-use Rattle.desk_laws.specs.Calls.{Lent, Call, load, run, fetch, heard, begin, Hub, lentWords, leftIn, put, Answer, bare, answer, next, Accepted}
+use Rattle.desk.specs.Shares.{sharesTest, setSharesBy, setSharesOf}
+use Rattle.desk_laws.specs.Calls.{Lent, Call, load, run, fetch, heard, begin, setShares, Hub, lentWords, leftIn, put, Answer, bare, answer, next, Accepted}
 use Rattle.desk_laws.specs.Refusals.{bufferLent, wordsLent, RefusalsChangeNothing, TwelveFirst}
 use Rattle.desk_laws.proofs.Seats.{left-same, loadHub, runHub, loadTold, runTold, fetchTold, heardTold}
 
@@ -55,13 +56,20 @@ unfolding deskHeardBy
 heard-same h i zero f = absurd (f refl)
 heard-same h i (suc n) f = record { desk = refl; area = λ k. refl; told = refl }
 
+set-same : (h : Hub) (shares : List ℕ) (n : ℕ) → (setSharesBy n (h .desk) shares .number ≡ 0 → ⊥)
+    → Same h (record { desk = setSharesBy n (h .desk) shares .desk; area = h .area }) (bare (setSharesBy n (h .desk) shares .number) [] []) [] []
+unfolding setSharesBy
+set-same h shares zero f = absurd (f refl)
+set-same h shares (suc n) f = record { desk = refl; area = λ k. refl; told = refl }
+
 same-by : (h : Hub) (c : Call) → (Accepted h c → ⊥) → Same h (next h c) (answer h c) (bufferLent c) (wordsLent h c)
-unfolding next answer deskLoadOf deskRunOf deskFetchOf deskFetchBy deskHeardOf beginOf
+unfolding next answer deskLoadOf deskRunOf deskFetchOf deskFetchBy deskHeardOf beginOf setSharesOf
 same-by h (load i rec lent) f = load-same h i lent rec (deskLoadRefusal i rec (lentWords (h .area i) lent)) f
 same-by h (run i request lent) f = run-same h i lent request (deskRunRefusal (h .desk) i request (lentWords (h .area i) lent)) f
 same-by h (fetch i buffer lent) f = fetch-same h i lent buffer (deskFetchRefusal (h .desk) i (lentWords (h .area i) lent) buffer) f
 same-by h (heard i) f = heard-same h i (sectorTest i) f
 same-by h begin f = absurd (f refl)
+same-by h (setShares shares eight) f = set-same h shares (sharesTest shares) f
 
 pub refusals-change-nothing : RefusalsChangeNothing
 refusals-change-nothing h c f =
@@ -83,7 +91,7 @@ twelve-first h i above =
       run = λ request lent.
           let l = lentWords (h .area i) lent in
           let job = jobAt (h .desk) i in
-          ap (λ (t : ℕ). runTold h i request lent (first t (first (runRefusal job l) (roundTest job (h .desk .left) request))) .number) z;
+          ap (λ (t : ℕ). runTold h i request lent (first t (first (runRefusal job l) (countTest job (leftAt (h .desk) i) request))) .number) z;
       fetch = λ buffer lent. ap (λ (t : ℕ). first t (fetchRefusal (jobAt (h .desk) i) (lentWords (h .area i) lent) buffer)) z;
       heard = ap (λ (t : ℕ). heardTold h i t .number) z;
     }

@@ -1,48 +1,147 @@
--- What was granted in the round and what is left of it make 120. Assumes nothing.
-use mathlib.Core.Path.{_≡_, refl, ap, _∙_}
+-- What a sector was granted in the round and what it has left make the share that it had when the round began, and the shares of all never make more than
+-- 120. Assumes nothing.
+use mathlib.Core.Path.{_≡_, refl, sym, ap, subst}
+use mathlib.Core.Bool.{Bool, true, false, cond}
 use mathlib.Core.List.{List, [], _∷_}
-use Prim.Native.Nat.{ℕ, zero, suc, _+_}
+use Prim.Native.Nat.{ℕ, zero, suc, _+_, _≤_, _<_}
 use native.Mathlib.Omega.{arith}
+use borrow.Author.Tests.{ltb-false}
+use lib.Dec.{ltb, eqb, lit≤}
+use lib.IntN.{ℤ}
+use lib.ListN.{getD, getD-replicate}
+use Rattle.integers.specs.Sum.{total}
+use Rattle.integers.proofs.Sum.{total-same, total-mono}
 use Rattle.lists.specs.Histories.{afterAll}
+use Rattle.refusals.proofs.Refusals.{if-passed}
 use Rattle.engine.specs.Run.{runDone}
 use Rattle.desk.specs.declared.Desk.{Desk}
-use Rattle.desk.specs.Desk.{sectorTest, beginOf}
+use Rattle.desk.specs.Desk.{sectorTest, shareAt, leftAt, beginOf}
 use Rattle.desk.specs.Load.{deskLoadRefusal, deskLoadBy, deskLoadOf}
 use Rattle.desk.specs.Run.{deskRunRefusal, deskRunDone, deskRunBy, deskRunOf}
 use Rattle.desk.specs.Fetch.{deskFetchBy, deskFetchOf}
 use Rattle.desk.specs.Heard.{deskHeardOf}
-use Rattle.desk_laws.specs.Calls.{Lent, Call, load, run, fetch, heard, begin, Hub, new, lentWords, answer, next, after}
-use Rattle.desk_laws.specs.Rounds.{tallied, grantedIn, RoundTotal}
-use Rattle.desk_laws.proofs.Seats.{loadHub, runHub, runTold, heard-desk}
+use Rattle.desk.specs.Shares.{totalOf, sharesTest, setSharesBy, setSharesOf}
+use Rattle.desk_laws.specs.Calls.{Lent, Call, load, run, fetch, heard, begin, setShares, Hub, new, lentWords, Answer, answer, next, after, Kind, own, other, round, setting, ownOr, settingBy, kind}
+use Rattle.desk_laws.specs.Rounds.{tallied, grantedIn, startingAt, startingIn, grantedSoFar, startingShare, RoundTotal}
+use Rattle.desk_laws.proofs.Seats.{Seat, seat, Eight, loadSeat, runSeat, loadNumber, runNumber, seatGrant, ownNext, loadAnswer, runAnswer, ownAnswer, own-answer, loadHub, runHub, heard-desk, step, seat-next, eight-next, eight-new}
 
-module _ (h : Hub) (i n : ℕ) (sum : n + h .desk .left ≡ 120) where
-  load-total : (rec : List ℕ) (lent : Lent) (k : ℕ) → n + 0 + loadHub h i rec lent k .desk .left ≡ 120
-  unfolding deskLoadBy
-  load-total rec lent zero = omega (arith, sum)
-  load-total rec lent (suc k) = omega (arith, sum)
+-- ---- a sector by itself: each call that grants takes as much from its count
 
-  run-total : (request : ℕ) (lent : Lent) (k : ℕ) → n + runTold h i request lent k .count + runHub h i request lent k .desk .left ≡ 120
-  unfolding deskRunBy deskRunDone runDone
-  run-total request lent zero = omega (arith, sum)
-  run-total request lent (suc k) = omega (arith, sum)
+load-paid : (a : Seat) (rec : List ℕ) (lent : Lent) (l : List ℤ) (n : ℕ) → loadAnswer n rec l .count + loadSeat n a rec lent .left ≡ a .left
+load-paid a rec lent l zero = omega arith
+load-paid a rec lent l (suc n) = omega arith
 
-next-total : (h : Hub) (n : ℕ) (c : Call) → n + h .desk .left ≡ 120 → tallied c n (answer h c .count) + next h c .desk .left ≡ 120
-unfolding next answer deskLoadOf deskRunOf deskFetchOf deskFetchBy deskHeardOf beginOf
-next-total h n (load i rec lent) sum = load-total h i n sum rec lent (deskLoadRefusal i rec (lentWords (h .area i) lent))
-next-total h n (run i request lent) sum = run-total h i n sum request lent (deskRunRefusal (h .desk) i request (lentWords (h .area i) lent))
-next-total h n (fetch i buffer lent) sum = omega (arith, sum)
-next-total h n (heard i) sum = ap (λ (d : Desk). n + 0 + d .left) (heard-desk (sectorTest i) (h .desk) i) ∙ omega (arith, sum)
-next-total h n begin sum = refl
+run-paid : (a : Seat) (request : ℕ) (lent : Lent) (l : List ℤ) (n : ℕ) → runAnswer n (a .job) (seatGrant a request) l .count + runSeat n a (seatGrant a request) lent .left ≡ a .left
+unfolding runDone
+run-paid a request lent l zero = omega arith
+run-paid a request lent l (suc n) = omega arith
 
-total : (h : Hub) (n : ℕ) (calls : List Call) → n + h .desk .left ≡ 120 → grantedIn h n calls + after h calls .desk .left ≡ 120
-unfolding grantedIn afterAll
-total h n [] sum = sum
-total h n (c ∷ calls) sum = total (next h c) (tallied c n (answer h c .count)) calls (next-total h n c sum)
+own-paid : (a : Seat) (c : Call) → ownAnswer a c .count + ownNext a c .left ≡ a .left
+own-paid a (load j rec lent) = load-paid a rec lent (lentWords (a .area) lent) (loadNumber a rec lent)
+own-paid a (run j request lent) = run-paid a request lent (lentWords (a .area) lent) (runNumber a request lent)
+own-paid a (fetch j buffer lent) = omega arith
+own-paid a (heard j) = omega arith
+own-paid a begin = omega arith
+own-paid a (setShares shares eight) = omega arith
+
+module _ (i : ℕ) (small : i < 8) where
+  by-kind : (h : Hub) (c : Call) (granted start : ℕ) (k : Kind) → kind i c ≡ k → Eight (h .desk) → granted + seat i h .left ≡ start
+      → tallied k granted (answer h c .count) + step k c (seat i h) .left ≡ startingAt k start (shareAt (h .desk) i)
+  by-kind h c granted start own e w sum =
+      let x = own-paid (seat i h) c in
+      let y = ap (λ (r : Answer). r .count) (own-answer h i small w c e) in
+      omega (arith, sum, x, y)
+  by-kind h c granted start other e w sum = sum
+  by-kind h c granted start round e w sum = omega arith
+  by-kind h c granted start (setting s) e w sum = sum
+
+  paid-after : (h : Hub) (granted start : ℕ) (calls : List Call) → Eight (h .desk) → granted + leftAt (h .desk) i ≡ start
+      → grantedIn i h granted calls + leftAt (after h calls .desk) i ≡ startingIn i h start calls
+  unfolding grantedIn startingIn afterAll
+  paid-after h granted start [] w sum = sum
+  paid-after h granted start (c ∷ calls) w sum =
+      let k = kind i c in
+      let t = tallied k granted (answer h c .count) in
+      let u = startingAt k start (shareAt (h .desk) i) in
+      paid-after (next h c) t u calls (eight-next h c w)
+      (subst (λ (a : Seat). t + a .left ≡ u) (sym (seat-next h i small w c)) (by-kind h c granted start k refl w sum))
+
+-- ---- the shares of all
+
+record Within120 (d : Desk) (start : ℕ → ℕ) : Type 0 where
+  shares : totalOf (d .shares) ≤ 120
+  starting : total 8 start ≤ 120
+
+-- a call that begins no round leaves what the round began with
+same-own : (i j start share : ℕ) → startingAt (ownOr i j) start share ≡ start
+same-own i j start share = pick (eqb j i)
+  where
+    pick : (b : Bool) → startingAt (cond b own other) start share ≡ start
+    pick true = refl
+    pick false = refl
+
+same-set : (n s start share : ℕ) → startingAt (settingBy n s) start share ≡ start
+same-set zero s start share = refl
+same-set (suc n) s start share = refl
+
+module _ (d d′ : Desk) (start : ℕ → ℕ) (x : Within120 d start) where
+  -- new shares, and the same at each sector's start
+  within-same : totalOf (d′ .shares) ≤ 120 → (f : ℕ → ℕ) → ((i : ℕ) → f i ≡ start i) → Within120 d′ f
+  within-same s f same = record { shares = s; starting = subst (λ (n : ℕ). n ≤ 120) (sym (total-same 8 f start (λ i p. same i))) (x .starting) }
+
+load-shares : (h : Hub) (j : ℕ) (rec : List ℕ) (lent : Lent) (n : ℕ) → loadHub h j rec lent n .desk .shares ≡ h .desk .shares
+unfolding deskLoadBy
+load-shares h j rec lent zero = refl
+load-shares h j rec lent (suc n) = refl
+
+run-shares : (h : Hub) (j request : ℕ) (lent : Lent) (n : ℕ) → runHub h j request lent n .desk .shares ≡ h .desk .shares
+unfolding deskRunBy deskRunDone
+run-shares h j request lent zero = refl
+run-shares h j request lent (suc n) = refl
+
+set-shares-total : (d : Desk) (shares : List ℕ) (n : ℕ) → (n ≡ 0 → totalOf shares ≤ 120) → totalOf (d .shares) ≤ 120 → totalOf (setSharesBy n d shares .desk .shares) ≤ 120
+unfolding setSharesBy
+set-shares-total d shares zero f x = f refl
+set-shares-total d shares (suc n) f x = x
+
+within-next : (h : Hub) (c : Call) (start : ℕ → ℕ) → Within120 (h .desk) start → Within120 (next h c .desk) (λ i. startingAt (kind i c) (start i) (shareAt (h .desk) i))
+unfolding next deskLoadOf deskRunOf deskFetchOf deskFetchBy deskHeardOf beginOf setSharesOf
+within-next h (load j rec lent) start x =
+    let e = load-shares h j rec lent (deskLoadRefusal j rec (lentWords (h .area j) lent)) in
+    within-same (h .desk) _ start x (subst (λ (l : List ℕ). totalOf l ≤ 120) (sym e) (x .shares)) _ (λ i. same-own i j (start i) (shareAt (h .desk) i))
+within-next h (run j request lent) start x =
+    let e = run-shares h j request lent (deskRunRefusal (h .desk) j request (lentWords (h .area j) lent)) in
+    within-same (h .desk) _ start x (subst (λ (l : List ℕ). totalOf l ≤ 120) (sym e) (x .shares)) _ (λ i. same-own i j (start i) (shareAt (h .desk) i))
+within-next h (fetch j buffer lent) start x = within-same (h .desk) _ start x (x .shares) _ (λ i. same-own i j (start i) (shareAt (h .desk) i))
+within-next h (heard j) start x =
+    let e = heard-desk (sectorTest j) (h .desk) j in
+    within-same (h .desk) _ start x (subst (λ (d : Desk). totalOf (d .shares) ≤ 120) (sym e) (x .shares)) _ (λ i. same-own i j (start i) (shareAt (h .desk) i))
+within-next h begin start x = record { shares = x .shares; starting = x .shares }
+within-next h (setShares shares eight) start x =
+    let passed : sharesTest shares ≡ 0 → totalOf shares ≤ 120 = λ e. ltb-false 120 (totalOf shares) (if-passed (ltb 120 (totalOf shares)) 13 e) in
+    within-same (h .desk) _ start x (set-shares-total (h .desk) shares (sharesTest shares) passed (x .shares)) _ (λ i. same-set (sharesTest shares) (getD shares i 0) (start i) (shareAt (h .desk) i))
+
+within-after : (h : Hub) (calls : List Call) (start : ℕ → ℕ) → Within120 (h .desk) start → Within120 (after h calls .desk) (λ i. startingIn i h (start i) calls)
+unfolding afterAll startingIn
+within-after h [] start x = x
+within-after h (c ∷ calls) start x = within-after (next h c) calls (λ i. startingAt (kind i c) (start i) (shareAt (h .desk) i)) (within-next h c start x)
+
+at-first : (areas : ℕ → List ℤ) → Within120 (new areas .desk) (λ i. 15)
+unfolding total
+at-first areas = record { shares = lit≤ tt; starting = lit≤ tt }
+
+first-left : (areas : ℕ → List ℤ) (i : ℕ) → i < 8 → 0 + leftAt (new areas .desk) i ≡ 15
+first-left areas i small = let z : leftAt (new areas .desk) i ≡ 15 = getD-replicate 8 i 15 0 small in omega (arith, z)
 
 pub round-total : RoundTotal
 round-total areas calls =
-    let t = total (new areas) 0 calls refl in
+    let x = within-after (new areas) calls (λ i. 15) (at-first areas) in
+    let own-share : (i : ℕ) → i < 8 → grantedSoFar i areas calls + leftAt (after (new areas) calls .desk) i ≡ startingShare i areas calls =
+    λ i small. paid-after i small (new areas) 0 15 calls (eight-new areas) (first-left areas i small) in
+    let few = total-mono 8 (λ i. grantedSoFar i areas calls) (λ i. startingShare i areas calls) (λ i small. omega (arith, own-share i small)) in
     record {
-      total = t;
-      most = omega (arith, t);
+      own-share = own-share;
+      most = omega (arith, few, x .starting);
+      starting = x .starting;
+      shares = x .shares;
     }

@@ -1,13 +1,13 @@
--- A sector by itself: what its own calls, the calls of others and the begin of a round make of it. Assumes nothing.
+-- A sector by itself: what its own calls make of it, a round that begins and a share that it is given; the calls of others leave it as it is. Assumes nothing.
 use mathlib.Core.Path.{_≡_, refl, sym, ap, _∙_, subst}
 use mathlib.Core.Bool.{Bool, true, false, cond}
 use mathlib.Core.List.{List, [], _∷_}
-use Prim.Native.Nat.{ℕ, zero, suc, _+_, _-_, _≤_, _<_}
+use Prim.Native.Nat.{ℕ, zero, suc, _-_, _<_}
 use native.Mathlib.Omega.{arith}
 use borrow.Author.Tests.{eq-eqb, ne-eqb, eqb-true, eqb-false}
 use lib.Dec.{eqb}
 use lib.IntN.{ℤ}
-use lib.ListN.{length, length-set}
+use lib.ListN.{length, getD, length-set}
 use lib.Seq.{getD-set-same, getD-set-other}
 use Rattle.lists.specs.Histories.{afterAll}
 use Rattle.refusals.specs.Refusals.{first}
@@ -17,27 +17,31 @@ use Rattle.engine.specs.Load.{loadRefusal, loadBy}
 use Rattle.engine.specs.Run.{runRefusal, runDone}
 use Rattle.engine.specs.Fetch.{fetchRefusal, fetchBy}
 use Rattle.desk.specs.declared.Desk.{Desk}
-use Rattle.desk.specs.Desk.{sectorTest, jobAt, heardAt, beginOf}
+use Rattle.desk.specs.Desk.{sectorTest, jobAt, heardAt, shareAt, leftAt, beginOf}
 use Rattle.desk.specs.Load.{deskLoadRefusal, deskLoadBy, deskLoadOf}
-use Rattle.desk.specs.Run.{roundTest, deskRunRefusal, grant, deskRunDone, deskRunBy, deskRunOf}
+use Rattle.desk.specs.Run.{countTest, deskRunRefusal, grant, deskRunDone, deskRunBy, deskRunOf}
 use Rattle.desk.specs.Fetch.{deskFetchRefusal, deskFetchBy, deskFetchOf}
 use Rattle.desk.specs.Heard.{deskHeardBy, deskHeardOf}
+use Rattle.desk.specs.Shares.{sharesTest, setSharesBy, setSharesOf}
 use Rattle.desk.proofs.Accepted.{sector-passes}
-use Rattle.desk_laws.specs.Calls.{Lent, its, another, Call, load, run, fetch, heard, begin, Hub, new, lentWords, leftIn, put, Answer, bare, answer, next, after, own, other, round, ownOr, kind}
+use Rattle.desk_laws.specs.Calls.{Lent, its, another, Call, load, run, fetch, heard, begin, setShares, Hub, new, lentWords, leftIn, put, Answer, bare, answer, next, after, Kind, own, other, round, setting, ownOr, settingBy, kind}
 
 pub record Seat : Type 0 where
   pub job : Job
   pub heard : ℕ
+  pub share : ℕ
   pub left : ℕ
   pub area : List ℤ
 
 abbrev pub seat : ℕ → Hub → Seat
-seat i h = record { job = jobAt (h .desk) i; heard = heardAt (h .desk) i; left = h .desk .left; area = h .area i }
+seat i h = record { job = jobAt (h .desk) i; heard = heardAt (h .desk) i; share = shareAt (h .desk) i; left = leftAt (h .desk) i; area = h .area i }
 
 -- arrays of eight, as a desk from a new one on has them
 pub record Eight (d : Desk) : Type 0 where
   pub jobs : length (d .jobs) ≡ 8
   pub heard : length (d .heard) ≡ 8
+  pub shares : length (d .shares) ≡ 8
+  pub left : length (d .left) ≡ 8
 
 -- ---- the sector's own calls, by itself
 
@@ -45,20 +49,20 @@ pub record Eight (d : Desk) : Type 0 where
 abbrev pub loadSeat : ℕ → Seat → List ℕ → Lent → Seat
 loadSeat zero a rec lent =
     let o = loadBy 0 rec (lentWords (a .area) lent) in
-    record { job = o .reply .job; heard = o .reply .heard; left = a .left; area = leftIn (a .area) lent (o .workspace) }
+    record { job = o .reply .job; heard = o .reply .heard; share = a .share; left = a .left; area = leftIn (a .area) lent (o .workspace) }
 loadSeat (suc n) a rec lent = a
 
 abbrev pub runSeat : ℕ → Seat → ℕ → Lent → Seat
 runSeat zero a count lent =
     let o = runDone (a .job) count (lentWords (a .area) lent) in
-    record { job = o .reply .job; heard = a .heard; left = a .left - count; area = leftIn (a .area) lent (o .workspace) }
+    record { job = o .reply .job; heard = a .heard; share = a .share; left = a .left - count; area = leftIn (a .area) lent (o .workspace) }
 runSeat (suc n) a count lent = a
 
 abbrev pub loadNumber : Seat → List ℕ → Lent → ℕ
 loadNumber a rec lent = loadRefusal rec (lentWords (a .area) lent)
 
 abbrev pub runNumber : Seat → ℕ → Lent → ℕ
-runNumber a request lent = first (runRefusal (a .job) (lentWords (a .area) lent)) (roundTest (a .job) (a .left) request)
+runNumber a request lent = first (runRefusal (a .job) (lentWords (a .area) lent)) (countTest (a .job) (a .left) request)
 
 abbrev pub fetchNumber : Seat → List ℕ → Lent → ℕ
 fetchNumber a buffer lent = fetchRefusal (a .job) (lentWords (a .area) lent) buffer
@@ -72,6 +76,7 @@ ownNext a (run j request lent) = runSeat (runNumber a request lent) a (seatGrant
 ownNext a (fetch j buffer lent) = a
 ownNext a (heard j) = a
 ownNext a begin = a
+ownNext a (setShares shares eight) = a
 
 abbrev pub loadAnswer : ℕ → List ℕ → List ℤ → Answer
 loadAnswer zero rec l =
@@ -98,6 +103,7 @@ ownAnswer a (run j request lent) = runAnswer (runNumber a request lent) (a .job)
 ownAnswer a (fetch j buffer lent) = fetchAnswer (fetchNumber a buffer lent) (lentWords (a .area) lent) buffer
 ownAnswer a (heard j) = heardAnswer (a .heard)
 ownAnswer a begin = bare 0 [] []
+ownAnswer a (setShares shares eight) = bare 0 [] []
 
 -- a Run answers its number
 pub run-number-is : (n : ℕ) (job : Job) (count : ℕ) (l : List ℤ) → runAnswer n job count l .number ≡ n
@@ -128,26 +134,16 @@ own-is i j = pick (eqb j i) (eqb-true j i)
     pick true f e = f refl
     pick false f e = absurd (let z : _≡_ {A = ℕ} 0 1 = cc in omega arith)
 
-pub other-is : (i j : ℕ) → ownOr i j ≡ other → i ≡ j → ⊥
-other-is i j = pick (eqb j i) (eqb-false j i)
-  where
-    pick : (b : Bool) → (b ≡ false → j ≡ i → ⊥) → cond b own other ≡ other → i ≡ j → ⊥
-    pick true f e q = let z : _≡_ {A = ℕ} 0 1 = cc in omega arith
-    pick false f e q = f refl (sym q)
-
-never : (b : Bool) → cond b own other ≡ round → ⊥
-never true e = let z : _≡_ {A = ℕ} 0 1 = cc in omega arith
-never false e = let z : _≡_ {A = ℕ} 0 1 = cc in omega arith
+pub own-if : (i j : ℕ) → j ≡ i → ownOr i j ≡ own
+own-if i j e = rw (eq-eqb j i e)
 
 pub own-kind : (i : ℕ) → ownOr i i ≡ own
-own-kind i = rw (eq-eqb i i refl)
+own-kind i = own-if i i refl
 
-pub round-is : (i : ℕ) (c : Call) → kind i c ≡ round → c ≡ begin
-round-is i (load j rec lent) e = absurd (never (eqb j i) e)
-round-is i (run j request lent) e = absurd (never (eqb j i) e)
-round-is i (fetch j buffer lent) e = absurd (never (eqb j i) e)
-round-is i (heard j) e = absurd (never (eqb j i) e)
-round-is i begin e = refl
+-- a setting is nobody's own
+not-own : (n s : ℕ) → settingBy n s ≡ own → ⊥
+not-own zero s e = let z : _≡_ {A = ℕ} 0 1 = cc in omega arith
+not-own (suc n) s e = let z : _≡_ {A = ℕ} 0 1 = cc in omega arith
 
 -- ---- a call by the number that decides, at the hub
 
@@ -201,6 +197,9 @@ module _ (h : Hub) (i : ℕ) (small : i < 8) (w : Eight (h .desk)) where
   in-heard : i < length (h .desk .heard)
   in-heard = omega (arith, w .heard)
 
+  in-left : i < length (h .desk .left)
+  in-left = omega (arith, w .left)
+
   load-seat : (rec : List ℕ) (lent : Lent) (n : ℕ) → seat i (loadHub h i rec lent n) ≡ loadSeat n (seat i h) rec lent
   unfolding deskLoadBy
   load-seat rec lent zero = rw (getD-set-same (h .desk .jobs) i _ noJob in-jobs, getD-set-same (h .desk .heard) i _ 0 in-heard, put-same)
@@ -208,7 +207,7 @@ module _ (h : Hub) (i : ℕ) (small : i < 8) (w : Eight (h .desk)) where
 
   run-seat : (request : ℕ) (lent : Lent) (n : ℕ) → seat i (runHub h i request lent n) ≡ runSeat n (seat i h) (seatGrant (seat i h) request) lent
   unfolding deskRunBy deskRunDone
-  run-seat request lent zero = rw (getD-set-same (h .desk .jobs) i _ noJob in-jobs, put-same)
+  run-seat request lent zero = rw (getD-set-same (h .desk .jobs) i _ noJob in-jobs, getD-set-same (h .desk .left) i _ 0 in-left, put-same)
   run-seat request lent (suc n) = rw (put-same, left-same)
 
   pub own-next : (c : Call) → kind i c ≡ own → seat i (next h c) ≡ ownNext (seat i h) c
@@ -222,6 +221,7 @@ module _ (h : Hub) (i : ℕ) (small : i < 8) (w : Eight (h .desk)) where
   own-next (fetch j buffer lent) e = refl
   own-next (heard j) e = ap (λ (d : Desk). seat i (record { desk = d; area = h .area })) (heard-desk (sectorTest j) (h .desk) j)
   own-next begin e = absurd (let z : _≡_ {A = ℕ} 0 1 = cc in omega arith)
+  own-next (setShares shares eight) e = absurd (not-own (sharesTest shares) (getD shares i 0) e)
 
   load-told : (rec : List ℕ) (lent : Lent) (n : ℕ) → loadTold h i rec lent n ≡ loadAnswer n rec (lentWords (h .area i) lent)
   unfolding deskLoadBy
@@ -246,75 +246,96 @@ module _ (h : Hub) (i : ℕ) (small : i < 8) (w : Eight (h .desk)) where
       rw (own-is i j e) (ap (λ (k : ℕ). fetchAnswer k (lentWords (h .area i) lent) buffer) (sector-first i n small))
   own-answer (heard j) e = rw (own-is i j e) (ap (heardTold h i) (sector-passes i small))
   own-answer begin e = absurd (let z : _≡_ {A = ℕ} 0 1 = cc in omega arith)
+  own-answer (setShares shares eight) e = absurd (not-own (sharesTest shares) (getD shares i 0) e)
 
--- ---- the calls of others
-
--- k turns fewer are left, or more
-abbrev pub less : Seat → ℕ → Seat
-less a k = record { job = a .job; heard = a .heard; left = a .left - k; area = a .area }
-
-abbrev pub more : Seat → ℕ → Seat
-more a k = record { job = a .job; heard = a .heard; left = a .left + k; area = a .area }
-
--- what a call of another sector makes of this one: the turns granted are gone, and they were there
-pub record Passed (i : ℕ) (h g : Hub) (count : ℕ) : Type 0 where
-  pub seat : seat i g ≡ less (seat i h) count
-  pub left : count ≤ h .desk .left
-
-none-less : (h : Hub) (i : ℕ) → less (seat i h) 0 ≡ seat i h
-none-less h i = let z : h .desk .left - 0 ≡ h .desk .left = omega arith in rw z
+-- ---- the calls of others leave the sector as it is
 
 module _ (h : Hub) (i j : ℕ) (d : i ≡ j → ⊥) where
-  load-passes : (rec : List ℕ) (lent : Lent) (n : ℕ) → Passed i h (loadHub h j rec lent n) 0
+  load-passes : (rec : List ℕ) (lent : Lent) (n : ℕ) → seat i (loadHub h j rec lent n) ≡ seat i h
   unfolding deskLoadBy
-  load-passes rec lent zero = record {
-    seat = rw (getD-set-other (h .desk .jobs) j i _ noJob d, getD-set-other (h .desk .heard) j i _ 0 d, put-other (h .area) i j _ d) (sym (none-less h i));
-    left = omega arith;
-  }
-  load-passes rec lent (suc n) = record { seat = rw (put-other (h .area) i j _ d) (sym (none-less h i)); left = omega arith }
+  load-passes rec lent zero = rw (getD-set-other (h .desk .jobs) j i _ noJob d, getD-set-other (h .desk .heard) j i _ 0 d, put-other (h .area) i j _ d)
+  load-passes rec lent (suc n) = rw (put-other (h .area) i j _ d)
 
-  run-passes : (request : ℕ) (lent : Lent) (n : ℕ) → Passed i h (runHub h j request lent n) (runTold h j request lent n .count)
-  unfolding deskRunBy deskRunDone runDone
-  run-passes request lent zero = record { seat = rw (getD-set-other (h .desk .jobs) j i _ noJob d, put-other (h .area) i j _ d); left = omega arith }
-  run-passes request lent (suc n) = record { seat = rw (put-other (h .area) i j _ d) (sym (none-less h i)); left = omega arith }
+  run-passes : (request : ℕ) (lent : Lent) (n : ℕ) → seat i (runHub h j request lent n) ≡ seat i h
+  unfolding deskRunBy deskRunDone
+  run-passes request lent zero = rw (getD-set-other (h .desk .jobs) j i _ noJob d, getD-set-other (h .desk .left) j i _ 0 d, put-other (h .area) i j _ d)
+  run-passes request lent (suc n) = rw (put-other (h .area) i j _ d)
 
-pub other-passes : (h : Hub) (i : ℕ) (c : Call) → kind i c ≡ other → Passed i h (next h c) (answer h c .count)
-unfolding next answer deskLoadOf deskRunOf deskFetchOf deskFetchBy deskHeardOf
-other-passes h i (load j rec lent) e = load-passes h i j (other-is i j e) rec lent (deskLoadRefusal j rec (lentWords (h .area j) lent))
-other-passes h i (run j request lent) e = run-passes h i j (other-is i j e) request lent (deskRunRefusal (h .desk) j request (lentWords (h .area j) lent))
-other-passes h i (fetch j buffer lent) e = record { seat = sym (none-less h i); left = omega arith }
-other-passes h i (heard j) e =
-    record { seat = ap (λ (d : Desk). seat i (record { desk = d; area = h .area })) (heard-desk (sectorTest j) (h .desk) j) ∙ sym (none-less h i); left = omega arith }
-other-passes h i begin e = absurd (let z : _≡_ {A = ℕ} 0 1 = cc in omega arith)
-
--- ---- a round begins
+-- ---- a round begins, or the sector is given a share
 
 abbrev pub refilled : Seat → Seat
-refilled a = record { job = a .job; heard = a .heard; left = 120; area = a .area }
+refilled a = record { job = a .job; heard = a .heard; share = a .share; left = a .share; area = a .area }
 
-pub round-next : (h : Hub) (i : ℕ) (c : Call) → kind i c ≡ round → seat i (next h c) ≡ refilled (seat i h)
-unfolding next beginOf
-round-next h i c e = rw (round-is i c e)
+abbrev pub sharing : Seat → ℕ → Seat
+sharing a s = record { job = a .job; heard = a .heard; share = s; left = a .left; area = a .area }
+
+abbrev setHub : Hub → List ℕ → ℕ → Hub
+setHub h shares n = record { desk = setSharesBy n (h .desk) shares .desk; area = h .area }
+
+-- ---- what any call makes of a sector, by its kind
+
+abbrev pub step : Kind → Call → Seat → Seat
+step own c a = ownNext a c
+step other c a = a
+step round c a = refilled a
+step (setting s) c a = sharing a s
+
+set-seat : (h : Hub) (i : ℕ) (shares : List ℕ) (c : Call) (n : ℕ) → seat i (setHub h shares n) ≡ step (settingBy n (getD shares i 0)) c (seat i h)
+unfolding setSharesBy
+set-seat h i shares c zero = refl
+set-seat h i shares c (suc n) = refl
+
+module _ (h : Hub) (i : ℕ) (small : i < 8) (w : Eight (h .desk)) where
+  -- a call for the sector j
+  own-or : (c : Call) (j : ℕ) → (j ≡ i → seat i (next h c) ≡ ownNext (seat i h) c) → ((i ≡ j → ⊥) → seat i (next h c) ≡ seat i h) → seat i (next h c) ≡ step (ownOr i j) c (seat i h)
+  own-or c j f g = pick (eqb j i) (eqb-true j i) (eqb-false j i)
+    where
+      pick : (b : Bool) → (b ≡ true → j ≡ i) → (b ≡ false → j ≡ i → ⊥) → seat i (next h c) ≡ step (cond b own other) c (seat i h)
+      pick true e d = f (e refl)
+      pick false e d = g (λ q. d refl (sym q))
+
+  pub seat-next : (c : Call) → seat i (next h c) ≡ step (kind i c) c (seat i h)
+  unfolding next deskLoadOf deskRunOf deskFetchOf deskFetchBy deskHeardOf beginOf setSharesOf
+  seat-next (load j rec lent) =
+      own-or (load j rec lent) j (λ e. own-next h i small w (load j rec lent) (own-if i j e))
+      (λ d. load-passes h i j d rec lent (deskLoadRefusal j rec (lentWords (h .area j) lent)))
+  seat-next (run j request lent) =
+      own-or (run j request lent) j (λ e. own-next h i small w (run j request lent) (own-if i j e))
+      (λ d. run-passes h i j d request lent (deskRunRefusal (h .desk) j request (lentWords (h .area j) lent)))
+  seat-next (fetch j buffer lent) = own-or (fetch j buffer lent) j (λ e. refl) (λ d. refl)
+  seat-next (heard j) =
+      let z = ap (λ (d : Desk). seat i (record { desk = d; area = h .area })) (heard-desk (sectorTest j) (h .desk) j) in
+      own-or (heard j) j (λ e. z) (λ d. z)
+  seat-next begin = refl
+  seat-next (setShares shares eight) = set-seat h i shares (setShares shares eight) (sharesTest shares)
 
 -- ---- arrays stay arrays of eight
 
 eight-load : (d : Desk) (i : ℕ) (rec : List ℕ) (l : List ℤ) (n : ℕ) → Eight d → Eight (deskLoadBy n d i rec l .reply .desk)
 unfolding deskLoadBy
-eight-load d i rec l zero w = record { jobs = length-set (d .jobs) i _ ∙ w .jobs; heard = length-set (d .heard) i _ ∙ w .heard }
+eight-load d i rec l zero w =
+    record { jobs = length-set (d .jobs) i _ ∙ w .jobs; heard = length-set (d .heard) i _ ∙ w .heard; shares = w .shares; left = w .left }
 eight-load d i rec l (suc n) w = w
 
 eight-run : (d : Desk) (i request : ℕ) (l : List ℤ) (n : ℕ) → Eight d → Eight (deskRunBy n d i request l .reply .desk)
 unfolding deskRunBy deskRunDone
-eight-run d i request l zero w = record { jobs = length-set (d .jobs) i _ ∙ w .jobs; heard = w .heard }
+eight-run d i request l zero w =
+    record { jobs = length-set (d .jobs) i _ ∙ w .jobs; heard = w .heard; shares = w .shares; left = length-set (d .left) i _ ∙ w .left }
 eight-run d i request l (suc n) w = w
 
+eight-set : (d : Desk) (shares : List ℕ) (n : ℕ) → length shares ≡ 8 → Eight d → Eight (setSharesBy n d shares .desk)
+unfolding setSharesBy
+eight-set d shares zero e w = record { jobs = w .jobs; heard = w .heard; shares = e; left = w .left }
+eight-set d shares (suc n) e w = w
+
 pub eight-next : (h : Hub) (c : Call) → Eight (h .desk) → Eight (next h c .desk)
-unfolding next deskLoadOf deskRunOf deskFetchOf deskFetchBy deskHeardOf beginOf
+unfolding next deskLoadOf deskRunOf deskFetchOf deskFetchBy deskHeardOf beginOf setSharesOf
 eight-next h (load j rec lent) w = eight-load (h .desk) j rec (lentWords (h .area j) lent) (deskLoadRefusal j rec (lentWords (h .area j) lent)) w
 eight-next h (run j request lent) w = eight-run (h .desk) j request (lentWords (h .area j) lent) (deskRunRefusal (h .desk) j request (lentWords (h .area j) lent)) w
 eight-next h (fetch j buffer lent) w = w
 eight-next h (heard j) w = subst Eight (sym (heard-desk (sectorTest j) (h .desk) j)) w
-eight-next h begin w = record { jobs = w .jobs; heard = w .heard }
+eight-next h begin w = record { jobs = w .jobs; heard = w .heard; shares = w .shares; left = w .shares }
+eight-next h (setShares shares eight) w = eight-set (h .desk) shares (sharesTest shares) eight w
 
 pub eight-after : (h : Hub) (calls : List Call) → Eight (h .desk) → Eight (after h calls .desk)
 unfolding afterAll
@@ -322,4 +343,4 @@ eight-after h [] w = w
 eight-after h (c ∷ calls) w = eight-after (next h c) calls (eight-next h c w)
 
 pub eight-new : (areas : ℕ → List ℤ) → Eight (new areas .desk)
-eight-new areas = record { jobs = refl; heard = refl }
+eight-new areas = record { jobs = refl; heard = refl; shares = refl; left = refl }

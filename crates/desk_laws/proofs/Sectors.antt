@@ -21,10 +21,10 @@ use Rattle.accuracy.specs.Demand3 as engine
 use Rattle.accuracy.proofs.Demand3.{demand3}
 use Rattle.accuracy.proofs.Possible.{Stepping}
 use Rattle.desk.specs.Desk.{jobAt}
-use Rattle.desk_laws.specs.Calls.{Lent, its, another, Call, load, run, fetch, heard, begin, Hub, new, lentWords, Answer, answer, next, after, Accepted, Kind, own, other, round, kind, Its, LentIts, OwnLent, EachLentIts}
+use Rattle.desk_laws.specs.Calls.{Lent, its, another, Call, load, run, fetch, heard, begin, setShares, Hub, new, lentWords, Answer, answer, next, after, Accepted, Kind, own, other, round, setting, kind, Its, LentIts, OwnLent, EachLentIts}
 use Rattle.desk_laws.specs.Unloaded.{IsLoad, NoLoad, EachNoLoad}
 use Rattle.desk_laws.specs.Sectors.{engineRun, engineFetch, engineCall, engineCalls, stateAfter, ranAnswer, fetchedAnswer, SectorDemand3}
-use Rattle.desk_laws.proofs.Seats.{Seat, seat, Eight, loadSeat, runSeat, loadNumber, runNumber, fetchNumber, seatGrant, ownNext, loadAnswer, runAnswer, fetchAnswer, ownAnswer, run-number-is, own-kind, own-next, own-answer, other-passes, round-next, eight-next, eight-after, eight-new}
+use Rattle.desk_laws.proofs.Seats.{Seat, seat, Eight, loadSeat, runSeat, loadNumber, runNumber, fetchNumber, seatGrant, ownNext, loadAnswer, runAnswer, fetchAnswer, ownAnswer, run-number-is, own-kind, own-next, own-answer, step, seat-next, eight-next, eight-after, eight-new}
 use Rattle.desk_laws.proofs.Refusals.{refusals-change-nothing}
 
 -- ---- a seat and a state of demand 3 side by side
@@ -88,22 +88,21 @@ module _ (a : Seat) (s : State) (b : Beside a s) where
   own-step (fetch j buffer lent) f u = fetch-step j (fetchNumber a buffer lent) buffer lent u
   own-step (heard j) f u = idle
   own-step begin f u = idle
+  own-step (setShares shares eight) f u = idle
 
 -- ---- over a list of calls
 
 module _ (i : ℕ) (small : i < 8) where
   by-kind : (h : Hub) (c : Call) (s : State) (k : Kind) → kind i c ≡ k → Eight (h .desk) → Beside (seat i h) s → (k ≡ own → IsLoad c → Accepted h c → ⊥) → (k ≡ own → Accepted h c → LentIts c)
-      → Step (seat i (next h c)) s (engineCall k (answer h c .number) (jobAt (h .desk) i) c (answer h c .count))
+      → Step (step k c (seat i h)) s (engineCall k (answer h c .number) (jobAt (h .desk) i) c (answer h c .count))
   by-kind h c s own e w b f u =
       let r = own-answer h i small w c e in
       let n = ap (λ (x : Answer). x .number) r in
-      subst (λ (a : Seat). Step a s (engineCall own (answer h c .number) (jobAt (h .desk) i) c (answer h c .count))) (sym (own-next h i small w c e))
-      (subst (λ (x : Answer). Step (ownNext (seat i h) c) s (engineCall own (x .number) (jobAt (h .desk) i) c (x .count))) (sym r)
-      (own-step (seat i h) s b c (λ t z. f refl t (n ∙ z)) (λ z. u refl (n ∙ z))))
-  by-kind h c s other e w b f u =
-      subst (λ (a : Seat). Step a s []) (sym (other-passes h i c e .seat)) (idle _ s (record { area = b .area; job = b .job; granted = b .granted }))
-  by-kind h c s round e w b f u =
-      subst (λ (a : Seat). Step a s []) (sym (round-next h i c e)) (idle _ s (record { area = b .area; job = b .job; granted = b .granted }))
+      subst (λ (x : Answer). Step (ownNext (seat i h) c) s (engineCall own (x .number) (jobAt (h .desk) i) c (x .count))) (sym r)
+      (own-step (seat i h) s b c (λ t z. f refl t (n ∙ z)) (λ z. u refl (n ∙ z)))
+  by-kind h c s other e w b f u = idle _ s b
+  by-kind h c s round e w b f u = idle _ s (record { area = b .area; job = b .job; granted = b .granted })
+  by-kind h c s (setting t) e w b f u = idle _ s (record { area = b .area; job = b .job; granted = b .granted })
 
   all : (h : Hub) (s : State) (calls : List Call) → Eight (h .desk) → Beside (seat i h) s → Along next (NoLoad i) h calls → Along next (OwnLent i) h calls
       → Step (seat i (after h calls)) s (engineCalls i h calls)
@@ -111,7 +110,7 @@ module _ (i : ℕ) (small : i < 8) where
   all h s [] w b f u = idle (seat i h) s b
   all h s (c ∷ calls) w b f u =
       let now = engineCall (kind i c) (answer h c .number) (jobAt (h .desk) i) c (answer h c .count) in
-      let x = by-kind h c s (kind i c) refl w b (f .0) (u .0) in
+      let x = subst (λ (a : Seat). Step a s now) (sym (seat-next h i small w c)) (by-kind h c s (kind i c) refl w b (f .0) (u .0)) in
       let y = all (next h c) (afterAll engine.after s now) calls (eight-next h c w) (x .beside) (f .1) (u .1) in
       record {
         in-step = along-append engine.after Stepping s now (engineCalls i (next h c) calls) (x .in-step) (y .in-step);

@@ -1,153 +1,292 @@
--- The premises of the laws can be met. Assumes nothing.
-use mathlib.Core.Path.{_≡_, refl, sym, ap, _∙_, subst}
-use mathlib.Core.List.{List, [], _∷_, _++_, append-assoc}
-use Prim.Native.Nat.{ℕ, zero, suc, _+_, _≤_, _<_}
+-- The premises of the laws can be met, and U10's number of rounds is sharp. Assumes nothing.
+use mathlib.Core.Path.{_≡_, refl, sym, ap, ap₂, _∙_, subst}
+use mathlib.Core.List.{List, [], _∷_, _++_}
+use Prim.Native.Nat.{ℕ, zero, suc, _+_, _-_, _*_, _≤_, _<_, min}
+use native.Mathlib.Nat.{div-add-mod', le-refl, suc-mul, zero-mul}
 use native.Mathlib.Omega.{arith}
-use borrow.Author.Tests.{ne-eqb}
+use borrow.Author.Tests.{le-ltb}
 use lib.IntN.{ℤ}
-use lib.ListN.{length}
+use lib.ListN.{length, getD, replicate, getD-replicate}
+use lib.Seq.{getD-set-same, getD-set-other}
+use Rattle.integers.proofs.Sum.{total-one}
 use Rattle.lists.specs.Histories.{afterAll, Place}
 use Rattle.lists.proofs.Histories.{after-append, Along, along-of, along-append, each-of}
 use Rattle.refusals.specs.Refusals.{headerTest}
-use Rattle.engine.specs.declared.job.Job.{Job}
-use Rattle.engine.specs.Job.{loadedJob}
+use Rattle.workspace.proofs.WordsAfter.{words-length}
 use Rattle.engine.specs.Load.{loadRefusal, loadBy}
 use Rattle.engine.specs.Run.{nextJob, runDone}
-use Rattle.engine.proofs.Accepted.{run-passes}
+use Rattle.engine.proofs.Accepted.{PossibleJob, run-passes}
+use Rattle.engine.proofs.Taken.{possible-next}
 use Rattle.accuracy.specs.Demand3.{Load}
 use Rattle.accuracy.proofs.Demand3.{room}
 use Rattle.desk.specs.Desk.{jobAt}
+use Rattle.desk.specs.Shares.{totalOf, sharesTest}
 use Rattle.desk.proofs.Accepted.{left-passes}
-use Rattle.desk_laws.specs.Calls.{Lent, its, Call, load, run, fetch, begin, Hub, new, Answer, answer, next, after, Accepted, Kind, own, other, round, kind, OwnLent, EachLentIts}
-use Rattle.desk_laws.specs.Others.{view}
+use Rattle.desk_laws.specs.Calls.{its, Call, load, run, fetch, begin, Hub, new, Answer, next, after, Accepted, Kind, own, other, setting, settingBy, kind, OwnLent, EachLentIts}
 use Rattle.desk_laws.specs.Unloaded.{NoLoad, EachNoLoad}
-use Rattle.desk_laws.specs.Served.{serving, ServedWhole, unserved, UnservedPossible, TurnsSeen}
-use Rattle.desk_laws.proofs.Seats.{Seat, seat, loadSeat, runSeat, loadNumber, runNumber, seatGrant, ownNext, runAnswer, ownAnswer, own-kind, own-next, own-answer, other-passes, round-next, eight-next, eight-after, eight-new}
+use Rattle.desk_laws.specs.Finish.{Undisturbed, EachUndisturbed, Requests, inRounds, EachRequests, roundedUp}
+use Rattle.desk_laws.specs.Served.{onlyFor, giving, requesting, ServedInRounds, NoRoundFewer, unserved, UnservedPossible}
+use Rattle.desk_laws.proofs.Seats.{Seat, seat, Eight, loadSeat, runSeat, loadNumber, runNumber, seatGrant, ownNext, loadAnswer, own-kind, own-next, own-answer, refilled, sharing, step, seat-next, eight-next, eight-after, eight-new}
 use Rattle.desk_laws.proofs.Sectors.{sector-demand-3}
 
--- ---- a sector that is loaded and waits
+-- ---- the share of one sector is the total
 
--- the job of Load, and room in the area
-record Waits (a : Seat) : Type 0 where
-  job : a .job ≡ loadedJob
+only-own : (i s : ℕ) → i < 8 → getD (onlyFor i s) i 0 ≡ s
+only-own i s small = getD-set-same (replicate 8 0) i s 0 small
+
+only-total : (i s : ℕ) → i < 8 → totalOf (onlyFor i s) ≡ s
+only-total i s small =
+    total-one 8 (λ k. getD (onlyFor i s) k 0) i small (λ k below d. getD-set-other (replicate 8 0) i k s 0 d ∙ getD-replicate 8 k 0 0 below)
+    ∙ only-own i s small
+
+given-kind : (i s : ℕ) → i < 8 → s ≤ 120 → kind i (giving i s) ≡ setting s
+given-kind i s small fits =
+    let t = only-total i s small in
+    let z : sharesTest (onlyFor i s) ≡ 0 = rw (le-ltb 120 (totalOf (onlyFor i s)) (omega (arith, t))) in
+    ap₂ settingBy z (only-own i s small)
+
+-- ---- a sector that has its share, room in its area, and n turns granted, as far as its job had them left
+
+record Ready (s n : ℕ) (a : Seat) : Type 0 where
+  share : a .share ≡ s
+  turn : a .job .turn ≡ min n 120
+  possible : PossibleJob (a .job)
   room : 512 ≤ length (a .area)
 
-loaded-waits : (a : Seat) (l : Load) → l .lent ≡ a .area → Waits (loadSeat (loadNumber a (l .bytes) its) a (l .bytes) its)
+loaded-ready : (s : ℕ) (a : Seat) (l : Load) → l .lent ≡ a .area → a .share ≡ s → Ready s 0 (loadSeat (loadNumber a (l .bytes) its) a (l .bytes) its)
 unfolding loadBy
-loaded-waits a l e = rw (← e, l .accepted) (record { job = refl; room = room l })
+loaded-ready s a l e f =
+    rw (← e, l .accepted) (record { share = f; turn = refl; possible = record { turn = omega arith; made = omega arith }; room = room l })
 
--- Load leaves the round as it was
-loaded-left : (a : Seat) (rec : List ℕ) (n : ℕ) → loadSeat n a rec its .left ≡ a .left
-loaded-left a rec zero = refl
-loaded-left a rec (suc n) = refl
+load-taken : (a : Seat) (l : Load) → l .lent ≡ a .area → loadAnswer (loadNumber a (l .bytes) its) (l .bytes) (a .area) .number ≡ 0
+load-taken a l e = rw (← e, l .accepted)
 
-abbrev NotOwn : ℕ → Hub → Call → Type 0
-NotOwn i h c = kind i c ≡ own → ⊥
+-- with its whole share left it is granted that much, or what its job has left
+module _ (s n : ℕ) (positive : 0 < s) (a : Seat) (x : Ready s n a) (full : a .left ≡ s) where
+  taken : runNumber a s its ≡ 0
+  taken =
+      let r = run-passes (a .job) (a .area) (record { room = x .room; possible = x .possible }) in
+      rw (r, left-passes (a .job) (a .left) s (omega (arith, full, positive)))
 
-by-kind : (i : ℕ) (h : Hub) (c : Call) (k : Kind) → kind i c ≡ k → (k ≡ own → ⊥) → Waits (seat i h) → Waits (seat i (next h c))
-by-kind i h c own e f w = absurd (f refl)
-by-kind i h c other e f w = subst Waits (sym (other-passes h i c e .seat)) (record { job = w .job; room = w .room })
-by-kind i h c round e f w = subst Waits (sym (round-next h i c e)) (record { job = w .job; room = w .room })
-
-waits-on : (i : ℕ) (h : Hub) (calls : List Call) → Along next (NotOwn i) h calls → Waits (seat i h) → Waits (seat i (after h calls))
-unfolding Along afterAll
-waits-on i h [] f w = w
-waits-on i h (c ∷ calls) f w = waits-on i (next h c) calls (f .1) (by-kind i h c (kind i c) refl (f .0) w)
-
--- at the start of a round it is granted what it requests, up to 120 turns
-module _ (a : Seat) (w : Waits a) (e : a .left ≡ 120) (request : ℕ) (fits : request ≤ 120) where
-  none-left : a .job .turn ≡ 0
-  none-left = ap (λ (j : Job). j .turn) (w .job)
-
-  accepted-run : runNumber a request its ≡ 0
-  accepted-run =
-      let job = w .job in
-      let t : a .job .turn ≤ 120 = omega (arith, none-left) in
-      let m : a .job .made ≤ a .job .turn = rw job (omega arith) in
-      let r = run-passes (a .job) (a .area) (record { room = w .room; possible = record { turn = t; made = m } }) in
-      rw (r, left-passes (a .job) (a .left) request (omega (arith, e)))
-
-  granted-whole : seatGrant a request ≡ request
-  granted-whole = omega (arith, none-left, e, fits)
-
-  counted : (j : ℕ) → ownAnswer a (run j request its) .count ≡ request
-  unfolding runDone
-  counted j = ap (λ (k : ℕ). runAnswer k (a .job) (seatGrant a request) (a .area) .count) accepted-run ∙ granted-whole
-
-  turned : (j : ℕ) → ownNext a (run j request its) .job .turn ≡ request
+  ran : Ready s (n + s) (runSeat 0 a (seatGrant a s) its)
   unfolding runDone nextJob
-  turned j =
-      ap (λ (k : ℕ). runSeat k a (seatGrant a request) its .job .turn) accepted-run
-      ∙ (let g = granted-whole in omega (arith, none-left, g))
+  ran =
+      let fits : a .job .turn + seatGrant a s ≤ 120 = omega (arith, x .possible .turn) in
+      record {
+        share = x .share;
+        turn = omega (arith, x .turn, full);
+        possible = possible-next (a .job) (seatGrant a s) (a .area) (omega arith) (x .possible);
+        room = omega (arith, words-length (a .job .turn) (seatGrant a s) (a .area) fits (x .room), x .room);
+      }
 
--- ---- it is served
+  granted : Ready s (n + s) (runSeat (runNumber a s its) a (seatGrant a s) its)
+  granted = subst (λ (k : ℕ). Ready s (n + s) (runSeat k a (seatGrant a s) its)) (sym taken) ran
 
-module _ (i : ℕ) (small : i < 8) (areas : ℕ → List ℤ) (l : Load) (between : List Call) (buffer : List ℕ) (same : l .lent ≡ areas i) (none : (c : Call) → Place c between → kind i c ≡ own → ⊥) where
+-- ---- the calls of others
+
+abbrev ByOther : ℕ → Hub → Call → Type 0
+ByOther i h c = kind i c ≡ other
+
+module _ (i : ℕ) (small : i < 8) where
+  -- the sector stands as it stood, so that Q holds of each of them
+  quiet : (Q : Hub → Call → Type 0) (a : Seat) → ((h : Hub) (c : Call) → kind i c ≡ other → seat i h ≡ a → Q h c)
+      → (h : Hub) (calls : List Call) → Eight (h .desk) → Along next (ByOther i) h calls → seat i h ≡ a → Along next Q h calls × (seat i (after h calls) ≡ a)
+  unfolding Along afterAll
+  quiet Q a f h [] w o e = (tt, e)
+  quiet Q a f h (c ∷ calls) w o e =
+      let z = seat-next h i small w c ∙ ap (λ (k : Kind). step k c (seat i h)) (o .0) ∙ e in
+      let r = quiet Q a f (next h c) calls (eight-next h c w) (o .1) z in
+      ((f h c (o .0) e, r .0), r .1)
+
+never-own : {A : Type 0} {k : Kind} → k ≡ other → k ≡ own → A
+never-own e f = absurd (let z : _≡_ {A = ℕ} 0 1 = cc in omega arith)
+
+-- ---- a round
+
+module _ (i s : ℕ) (small : i < 8) (positive : 0 < s) (others : List Call) (none : (c : Call) → Place c others → kind i c ≡ other) where
+  abbrev round-calls : List Call
+  round-calls = others ++ run i s its ∷ []
+
+  -- what the premises say of the calls from here on, and how the sector stands after them
+  record Going (h : Hub) (n : ℕ) (calls : List Call) : Type 0 where
+    undisturbed : Along next (Undisturbed i s) h calls
+    lent : Along next (OwnLent i) h calls
+    ready : Ready s n (seat i (after h calls))
+
+  module _ (h : Hub) (w : Eight (h .desk)) (n : ℕ) (x : Ready s n (seat i h)) where
+    abbrev begun : Hub
+    begun = next h begin
+
+    abbrev before-run : Hub
+    before-run = after begun others
+
+    abbrev full : Seat
+    full = refilled (seat i h)
+
+    full-ready : Ready s n full
+    full-ready = record { share = x .share; turn = x .turn; possible = x .possible; room = x .room }
+
+    by-others : (Q : Hub → Call → Type 0) → ((g : Hub) (c : Call) → kind i c ≡ other → seat i g ≡ full → Q g c)
+        → Along next Q begun others × (seat i before-run ≡ full)
+    by-others Q f =
+        quiet i small Q full f begun others (eight-next h begin w) (along-of next (ByOther i) begun others (λ c p. none c p)) (seat-next h i small w begin)
+
+    stays : seat i before-run ≡ full
+    stays = by-others (ByOther i) (λ g c o e. o) .1
+
+    ends : seat i (after begun round-calls) ≡ runSeat (runNumber full s its) full (seatGrant full s) its
+    unfolding afterAll
+    ends =
+        ap (seat i) (after-append next begun others (run i s its ∷ []))
+        ∙ own-next before-run i small (eight-after begun others (eight-next h begin w)) (run i s its) (own-kind i)
+        ∙ ap (λ (a : Seat). ownNext a (run i s its)) stays
+
+    requested : Requests i s begun round-calls
+    requested =
+        record { request = s; lent = its; place = record { before = others; rest = []; is = refl }; enough = le-refl s; room = subst (λ (a : Seat). 512 ≤ length (a .area)) (sym stays) (x .room) }
+
+    went : Going h (n + s) (begin ∷ round-calls)
+    unfolding Along afterAll
+    went = record {
+      undisturbed = (
+        record { share = x .share; not-loaded = λ o t. absurd t },
+        along-append next (Undisturbed i s) begun others (run i s its ∷ [])
+            (by-others (Undisturbed i s) (λ g c o e. record { share = ap (λ (a : Seat). a .share) e ∙ x .share; not-loaded = λ z. never-own o z }) .0)
+            (record { share = ap (λ (a : Seat). a .share) stays ∙ x .share; not-loaded = λ o t. absurd t }, tt),
+      );
+      lent = (
+        λ o z. tt,
+        along-append next (OwnLent i) begun others (run i s its ∷ []) (by-others (OwnLent i) (λ g c o e z. never-own o z) .0) (λ o z. tt, tt),
+      );
+      ready = subst (Ready s (n + s)) (sym ends) (granted s n positive full full-ready (x .share));
+    }
+
+  -- ---- m rounds
+
+  all-went : (m : ℕ) (h : Hub) → Eight (h .desk) → (n : ℕ) → Ready s n (seat i h)
+      → Going h (n + m * s) (inRounds (requesting i s others m)) × EachRequests i s h (requesting i s others m)
+  unfolding Along afterAll inRounds EachRequests
+  all-went zero h w n x =
+      let z : n ≡ n + 0 * s = omega (arith, zero-mul s) in
+      (record { undisturbed = tt; lent = tt; ready = subst (λ (k : ℕ). Ready s k (seat i h)) z x }, tt)
+  all-went (suc m) h w n x =
+      let g = after (begun h w n x) round-calls in
+      let rest = inRounds (requesting i s others m) in
+      let first = went h w n x in
+      let later = all-went m g (eight-after (begun h w n x) round-calls (eight-next h begin w)) (n + s) (first .ready) in
+      let e : n + s + m * s ≡ n + suc m * s = omega (arith, suc-mul m s) in (
+        record {
+          undisturbed = along-append next (Undisturbed i s) h (begin ∷ round-calls) rest (first .undisturbed) (later .0 .undisturbed);
+          lent = along-append next (OwnLent i) h (begin ∷ round-calls) rest (first .lent) (later .0 .lent);
+          ready = subst (λ (b : Hub). Ready s (n + suc m * s) (seat i b)) (sym (after-append next (begun h w n x) round-calls rest)) (subst (λ (k : ℕ). Ready s k (seat i (after g rest))) e (later .0 .ready));
+        },
+        (requested h w n x, later .1),
+      )
+
+-- ---- from a new desk on
+
+module _ (i s : ℕ) (small : i < 8) (positive : 0 < s) (fits : s ≤ 120) (areas : ℕ → List ℤ) (l : Load) (same : l .lent ≡ areas i) (others : List Call) (none : (c : Call) → Place c others → kind i c ≡ other) (m : ℕ) where
+  abbrev given-hub : Hub
+  given-hub = next (new areas) (giving i s)
+
   abbrev loading : Call
   loading = load i (l .bytes) its
 
-  abbrev start-hub : Hub
-  start-hub = next (new areas) loading
+  abbrev rounds : List Call
+  rounds = inRounds (requesting i s others m)
 
-  abbrev last-run : List Call
-  last-run = begin ∷ run i 120 its ∷ []
+  given-seat : seat i given-hub ≡ sharing (seat i (new areas)) s
+  given-seat = seat-next (new areas) i small (eight-new areas) (giving i s) ∙ ap (λ (k : Kind). step k (giving i s) (seat i (new areas))) (given-kind i s small fits)
 
-  never-own : (h : Hub) → Along next (NotOwn i) h between
-  never-own h = along-of next (NotOwn i) h between (λ c p. none c p)
+  given-eight : Eight (given-hub .desk)
+  given-eight = eight-next (new areas) (giving i s) (eight-new areas)
 
-  quiet : {Q : Hub → Call → Type 0} → ((h : Hub) (c : Call) → NotOwn i h c → Q h c) → (h : Hub) → Along next Q h between
-  quiet {Q} f h = along-of next Q h between (λ c p. f (afterAll next h (p .before)) c (none c p))
+  its-area : l .lent ≡ given-hub .area i
+  its-area = same ∙ sym (ap (λ (a : Seat). a .area) given-seat)
 
-  not-loaded : EachNoLoad i start-hub (serving i between buffer)
-  unfolding EachNoLoad Along
-  not-loaded =
-      each-of next (NoLoad i) start-hub (serving i between buffer)
-      (along-append next (NoLoad i) start-hub between (begin ∷ run i 120 its ∷ fetch i buffer its ∷ []) (quiet (λ h c f o. absurd (f o)) start-hub)
-      (λ o x. absurd x, (λ o x. absurd x, (λ o x. absurd x, tt))))
+  taken-in : Accepted given-hub loading
+  taken-in = ap (λ (x : Answer). x .number) (own-answer given-hub i small given-eight loading (own-kind i)) ∙ load-taken (seat i given-hub) l its-area
 
-  lent-along : Along next (OwnLent i) start-hub (serving i between buffer)
-  unfolding Along
-  lent-along =
-      along-append next (OwnLent i) start-hub between (begin ∷ run i 120 its ∷ fetch i buffer its ∷ []) (quiet (λ h c f o. absurd (f o)) start-hub)
-      (λ o z. tt, (λ o z. tt, (λ o z. tt, tt)))
+  at-start : Ready s 0 (seat i (next given-hub loading))
+  at-start =
+      subst (Ready s 0) (sym (own-next given-hub i small given-eight loading (own-kind i)))
+      (loaded-ready s (seat i given-hub) l its-area (ap (λ (a : Seat). a .share) given-seat))
 
-  lent-its : EachLentIts i (new areas) (loading ∷ serving i between buffer)
-  unfolding EachLentIts Along
-  lent-its = each-of next (OwnLent i) (new areas) (loading ∷ serving i between buffer) (λ o z. tt, lent-along)
+  going : Going i s small positive others none (next given-hub loading) (0 + m * s) rounds × EachRequests i s (next given-hub loading) (requesting i s others m)
+  going = all-went i s small positive others none m (next given-hub loading) (eight-next given-hub loading given-eight) 0 at-start
 
-  lent-later : EachLentIts i start-hub (serving i between buffer)
-  unfolding EachLentIts
-  lent-later = each-of next (OwnLent i) start-hub (serving i between buffer) lent-along
+  turn-is : jobAt (after (next given-hub loading) rounds .desk) i .turn ≡ min (m * s) 120
+  turn-is = let t = going .0 .ready .turn in omega (arith, t)
 
-  -- the last call but one leaves it finished
-  finished : jobAt (after start-hub (between ++ last-run) .desk) i .turn ≡ 120
-  unfolding afterAll
-  finished =
-      let w = eight-new areas in
-      let x = eight-next (new areas) loading w in
-      let k = after start-hub between in
-      let y = eight-after start-hub between x in
-      let b = next k begin in
-      let s = subst Waits (sym (own-next (new areas) i small w loading (own-kind i))) (loaded-waits (seat i (new areas)) l same) in
-      let t = by-kind i k begin round refl (λ q. absurd (let z : _≡_ {A = ℕ} 0 1 = cc in omega arith)) (waits-on i start-hub between (never-own start-hub) s) in
-      ap (λ (h : Hub). jobAt (h .desk) i .turn) (after-append next start-hub between last-run)
-      ∙ ap (λ (a : Seat). a .job .turn) (own-next b i small (eight-next k begin y) (run i 120 its) (own-kind i))
-      ∙ turned (seat i b) t (ap (λ (a : Seat). a .left) (round-next k i begin refl)) 120 (omega arith) i
+  module _ (buffer : List ℕ) where
+    abbrev fetching : List Call
+    fetching = fetch i buffer its ∷ []
 
-pub served-whole : ServedWhole
-unfolding afterAll
-served-whole i areas l between buffer small same none space =
-    let loads = not-loaded i small areas l between buffer same none in
-    let calls = last-run i small areas l between buffer same none in
-    let kept = sector-demand-3 i areas [] (serving i between buffer) l small same loads (lent-later i small areas l between buffer same none) in
-    let p : Place (fetch i buffer its) (serving i between buffer) = record { before = between ++ calls; rest = []; is = sym (append-assoc between calls (fetch i buffer its ∷ [])) } in
+    lent-later : Along next (OwnLent i) (next given-hub loading) (rounds ++ fetching)
+    unfolding Along
+    lent-later = along-append next (OwnLent i) (next given-hub loading) rounds fetching (going .0 .lent) (λ o z. tt, tt)
+
+    lent-all : EachLentIts i (new areas) (giving i s ∷ loading ∷ rounds ++ fetching)
+    unfolding EachLentIts Along
+    lent-all = each-of next (OwnLent i) (new areas) (giving i s ∷ loading ∷ rounds ++ fetching) (λ o z. tt, (λ o z. tt, lent-later))
+
+    lent-since : EachLentIts i (next given-hub loading) (rounds ++ fetching)
+    unfolding EachLentIts
+    lent-since = each-of next (OwnLent i) (next given-hub loading) (rounds ++ fetching) lent-later
+
+    loaded-once : EachNoLoad i (next given-hub loading) (rounds ++ fetching)
+    unfolding EachNoLoad Along
+    loaded-once =
+        each-of next (NoLoad i) (next given-hub loading) (rounds ++ fetching)
+        (along-append next (NoLoad i) (next given-hub loading) rounds fetching (along-map (going .0 .undisturbed)) (λ o t. absurd t, tt))
+      where
+        along-map : Along next (Undisturbed i s) (next given-hub loading) rounds → Along next (NoLoad i) (next given-hub loading) rounds
+        along-map u = along-of next (NoLoad i) (next given-hub loading) rounds (λ c p. each-of next (Undisturbed i s) (next given-hub loading) rounds u c p .not-loaded)
+
+    fetched : 2049 ≤ length buffer → 120 ≤ m * s → Accepted (after (next given-hub loading) rounds) (fetch i buffer its)
+    unfolding afterAll
+    fetched space enough =
+        let kept = sector-demand-3 i areas (giving i s ∷ []) (rounds ++ fetching) l small its-area loaded-once lent-since in
+        let t = turn-is in
+        kept .fetch-accepted buffer (record { before = rounds; rest = []; is = refl }) .1 (omega (arith, t, enough), space)
+
+pub served-in-rounds : ServedInRounds
+unfolding afterAll EachUndisturbed
+served-in-rounds i s areas l others m buffer small positive fits same none space =
+    let g = going i s small positive fits areas l same others none m in
+    let h = next (next (new areas) (giving i s)) (load i (l .bytes) its) in
     record {
-      not-loaded = loads;
-      lent = lent-its i small areas l between buffer same none;
-      accepted = kept .fetch-accepted buffer p .1 (omega (arith, finished i small areas l between buffer same none), space);
+      loaded = taken-in i s small positive fits areas l same others none m;
+      undisturbed = each-of next (Undisturbed i s) h (inRounds (requesting i s others m)) (g .0 .undisturbed);
+      requests = g .1;
+      lent = lent-all i s small positive fits areas l same others none m buffer;
+      not-loaded = loaded-once i s small positive fits areas l same others none m buffer;
+      turn = turn-is i s small positive fits areas l same others none m;
+      accepted = fetched i s small positive fits areas l same others none m buffer space;
     }
 
--- ---- it is not
+-- ---- one round fewer does not do
+
+too-few : (s : ℕ) → 0 < s → min ((roundedUp 120 s - 1) * s) 120 < 120
+too-few s positive =
+    let q = div-add-mod' (120 + s - 1) s in
+    let t = fewer (roundedUp 120 s) (omega arith) in
+    omega arith
+  where
+    fewer : (k : ℕ) → k * s ≤ 119 + s → (k - 1) * s ≤ 119
+    fewer zero h = omega (arith, zero-mul s)
+    fewer (suc k) h = let z : suc k - 1 ≡ k = omega arith in rw z (omega (arith, suc-mul k s, h))
+
+pub no-round-fewer : NoRoundFewer
+unfolding afterAll
+no-round-fewer i areas l others small same none =
+    record {
+      one-fewer = λ s positive fits. omega (arith, too-few s positive, turn-is i s small positive fits areas l same others none (roundedUp 120 s - 1));
+      eighteen = refl;
+      seventeen = turn-is i 7 small (omega arith) (omega arith) areas l same others none 17;
+    }
+
+-- ---- a sector that is not served
 
 empty-refused : (i : ℕ) (areas : ℕ → List ℤ) → i < 8 → Accepted (new areas) (load i [] its) → ⊥
 unfolding loadRefusal headerTest
@@ -158,26 +297,3 @@ unfolding EachNoLoad Along
 unserved-possible i request areas buffer small =
     each-of next (NoLoad i) (new areas) (unserved i request buffer)
     (λ o x. empty-refused i areas small, (λ o x. absurd x, (λ o x. absurd x, (λ o x. absurd x, (λ o x. absurd x, tt)))))
-
--- ---- what it sees of another
-
-load-count : (h : Hub) (j : ℕ) (rec : List ℕ) (lent : Lent) → answer h (load j rec lent) .count ≡ 0
-unfolding answer
-load-count h j rec lent = refl
-
-run-count : (j n : ℕ) (areas : ℕ → List ℤ) (l : Load) → j < 8 → n ≤ 120 → l .lent ≡ areas j → answer (next (new areas) (load j (l .bytes) its)) (run j n its) .count ≡ n
-unfolding loadBy
-run-count j n areas l small fits same =
-    let c = load j (l .bytes) its in
-    let w = eight-new areas in
-    let q = own-next (new areas) j small w c (own-kind j) in
-    let s = subst Waits (sym q) (loaded-waits (seat j (new areas)) l same) in
-    let left : seat j (next (new areas) c) .left ≡ 120 = ap (λ (a : Seat). a .left) q ∙ loaded-left (seat j (new areas)) (l .bytes) (loadNumber (seat j (new areas)) (l .bytes) its) in
-    ap (λ (x : Answer). x .count) (own-answer (next (new areas) c) j small (eight-next (new areas) c w) (run j n its) (own-kind j))
-    ∙ counted (seat j (next (new areas) c)) s left n fits j
-
-pub turns-seen : TurnsSeen
-unfolding view
-turns-seen i j n areas l c d small fits same e =
-    let z : 0 + 0 + n ≡ n = omega arith in
-    rw (ne-eqb j i (λ q. d (sym q)), e, load-count (new areas) j (l .bytes) its, run-count j n areas l small fits same, z)

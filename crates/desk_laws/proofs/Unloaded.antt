@@ -17,10 +17,10 @@ use Rattle.engine.specs.Fetch.{fetchRefusal}
 use Rattle.engine.proofs.Taken.{none-taken}
 use Rattle.desk.proofs.Accepted.{finished-passes}
 use Rattle.desk.specs.Desk.{unloadedJob}
-use Rattle.desk_laws.specs.Calls.{Lent, Call, load, run, fetch, heard, begin, Hub, new, lentWords, Answer, answer, next, after, Accepted, Kind, own, other, round, kind}
+use Rattle.desk_laws.specs.Calls.{Lent, Call, load, run, fetch, heard, begin, setShares, Hub, new, lentWords, Answer, answer, next, after, Accepted, Kind, own, other, round, setting, kind}
 use Rattle.desk_laws.specs.Unloaded.{IsLoad, NoLoad, EachNoLoad, ranNothing, NeverLoaded}
 use Rattle.desk_laws.specs.Sectors.{ranAnswer}
-use Rattle.desk_laws.proofs.Seats.{Seat, seat, Eight, loadSeat, runSeat, loadNumber, runNumber, fetchNumber, seatGrant, ownNext, loadAnswer, runAnswer, fetchAnswer, ownAnswer, own-kind, own-next, own-answer, other-passes, round-next, eight-next, eight-new}
+use Rattle.desk_laws.proofs.Seats.{Seat, seat, Eight, loadSeat, runSeat, loadNumber, runNumber, fetchNumber, seatGrant, ownNext, loadAnswer, runAnswer, fetchAnswer, ownAnswer, own-kind, own-answer, step, seat-next, eight-next, eight-new}
 
 record Empty (a : Seat) : Type 0 where
   job : a .job ≡ unloadedJob
@@ -51,6 +51,7 @@ own-empty a (run j request lent) f e = run-empty a request lent (runNumber a req
 own-empty a (fetch j buffer lent) f e = e
 own-empty a (heard j) f e = e
 own-empty a begin f e = e
+own-empty a (setShares shares eight) f e = e
 
 -- on a desk of eight
 record Stands (i : ℕ) (h : Hub) : Type 0 where
@@ -58,15 +59,16 @@ record Stands (i : ℕ) (h : Hub) : Type 0 where
   empty : Empty (seat i h)
 
 module _ (i : ℕ) (small : i < 8) where
-  by-kind : (h : Hub) (c : Call) (k : Kind) → kind i c ≡ k → Eight (h .desk) → Empty (seat i h) → (k ≡ own → IsLoad c → Accepted h c → ⊥) → Empty (seat i (next h c))
+  by-kind : (h : Hub) (c : Call) (k : Kind) → kind i c ≡ k → Eight (h .desk) → Empty (seat i h) → (k ≡ own → IsLoad c → Accepted h c → ⊥) → Empty (step k c (seat i h))
   by-kind h c own q w e f =
       let r = ap (λ (x : Answer). x .number) (own-answer h i small w c q) in
-      subst Empty (sym (own-next h i small w c q)) (own-empty (seat i h) c (λ t z. f refl t (r ∙ z)) e)
-  by-kind h c other q w e f = subst Empty (sym (other-passes h i c q .seat)) (record { job = e .job; heard = e .heard })
-  by-kind h c round q w e f = subst Empty (sym (round-next h i c q)) (record { job = e .job; heard = e .heard })
+      own-empty (seat i h) c (λ t z. f refl t (r ∙ z)) e
+  by-kind h c other q w e f = e
+  by-kind h c round q w e f = record { job = e .job; heard = e .heard }
+  by-kind h c (setting s) q w e f = record { job = e .job; heard = e .heard }
 
   stands-next : (h : Hub) (c : Call) → Stands i h → NoLoad i h c → Stands i (next h c)
-  stands-next h c s f = record { eight = eight-next h c (s .eight); empty = by-kind h c (kind i c) refl (s .eight) (s .empty) f }
+  stands-next h c s f = record { eight = eight-next h c (s .eight); empty = subst Empty (sym (seat-next h i small (s .eight) c)) (by-kind h c (kind i c) refl (s .eight) (s .empty) f) }
 
   stands-new : (areas : ℕ → List ℤ) → Stands i (new areas)
   stands-new areas = record { eight = eight-new areas; empty = record { job = getD-replicate 8 i unloadedJob _ small; heard = getD-replicate 8 i 0 _ small } }

@@ -8,7 +8,7 @@ use Rattle.engine.specs.declared.job.Job.{Job}
 use Rattle.engine.specs.Load.{loadOf}
 use Rattle.engine.specs.Run.{runOf}
 use Rattle.desk.specs.Desk.{sectorCount, jobAt, heardAt}
-use Rattle.desk_laws.specs.Calls.{Call, load, run, fetch, heard, begin, Hub, new, answer, next, after, Kind, own, other, round, kind, EachLentIts}
+use Rattle.desk_laws.specs.Calls.{Call, load, run, fetch, heard, begin, setShares, Hub, new, answer, next, after, Kind, own, other, round, setting, kind, EachLentIts}
 
 -- ---- one area alone, by the engine's own calls
 
@@ -44,6 +44,7 @@ workOf (run i request lent) count = turns count ∷ []
 workOf (fetch i buffer lent) count = []
 workOf (heard i) count = []
 workOf begin count = []
+workOf (setShares shares eight) count = []
 
 -- by kind, and by the call's number
 abbrev pub worksOf : Kind → ℕ → Call → ℕ → List Work
@@ -51,6 +52,7 @@ worksOf own zero c count = workOf c count
 worksOf own (suc n) c count = []
 worksOf other n c count = []
 worksOf round n c count = []
+worksOf (setting s) n c count = []
 
 unfoldable pub works : ℕ → Hub → List Call → List Work
 works i h [] = []

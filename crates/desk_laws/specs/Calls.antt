@@ -1,20 +1,22 @@
--- Document 02, U7: lists of calls at the desk, refused ones among them, each handed the desk that the one before answered. A sector's area is written by its
+-- Document 02, U7 and U10: lists of calls at the desk, refused ones among them, each handed the desk that the one before answered. A sector's area is written by its
 -- own calls and by nobody else. Each call does what its own definition says, which its contract equates the code with. Assumes nothing.
 use mathlib.Core.Path.{_≡_}
 use mathlib.Core.Bool.{cond}
 use mathlib.Core.List.{List, []}
-use Prim.Native.Nat.{ℕ}
+use Prim.Native.Nat.{ℕ, zero, suc}
 use lib.Dec.{eqb}
 use lib.IntN.{ℤ}
+use lib.ListN.{length, getD}
 use Rattle.lists.specs.Histories.{afterAll, Each}
 use Rattle.engine.specs.declared.job.Job.{Job}
 use Rattle.engine.specs.Job.{noJob}
 use Rattle.desk.specs.declared.Desk.{Desk}
-use Rattle.desk.specs.Desk.{newDesk, beginOf}
+use Rattle.desk.specs.Desk.{sectorCount, newDesk, beginOf}
 use Rattle.desk.specs.Load.{deskLoadOf}
 use Rattle.desk.specs.Run.{deskRunOf}
 use Rattle.desk.specs.Fetch.{deskFetchOf}
 use Rattle.desk.specs.Heard.{deskHeardOf}
+use Rattle.desk.specs.Shares.{sharesTest, setSharesOf}
 
 -- ---- a call
 
@@ -23,13 +25,15 @@ pub data Lent : Type 0 where
   its : Lent
   another : List ℤ → Lent
 
--- for a sector: Load with a record, Run with a request, Fetch with its buffer as it is handed over, and the heard byte; or a round begins
+-- for a sector: Load with a record, Run with a request, Fetch with its buffer as it is handed over, and the heard byte; or for all: a round begins, or all
+-- eight shares are set
 pub data Call : Type 0 where
   load : ℕ → List ℕ → Lent → Call
   run : ℕ → ℕ → Lent → Call
   fetch : ℕ → List ℕ → Lent → Call
   heard : ℕ → Call
   begin : Call
+  setShares : (shares : List ℕ) → length shares ≡ sectorCount → Call
 
 -- ---- what stands between two calls
 
@@ -89,6 +93,7 @@ answer h (heard i) =
     let r = deskHeardOf (h .desk) i in
     record { number = r .number; heard = r .heard; job = noJob; count = 0; clamps-r = 0; clamps-q = 0; buffer = []; words = [] }
 answer h begin = bare (beginOf (h .desk) .number) [] []
+answer h (setShares shares eight) = bare (setSharesOf (h .desk) shares .number) [] []
 
 -- the desk that it answers, and the areas
 unfoldable pub next : Hub → Call → Hub
@@ -101,6 +106,7 @@ next h (run i request lent) =
 next h (fetch i buffer lent) = record { desk = deskFetchOf (h .desk) i (lentWords (h .area i) lent) buffer .reply .desk; area = h .area }
 next h (heard i) = record { desk = deskHeardOf (h .desk) i .desk; area = h .area }
 next h begin = record { desk = beginOf (h .desk) .desk; area = h .area }
+next h (setShares shares eight) = record { desk = setSharesOf (h .desk) shares .desk; area = h .area }
 
 abbrev pub after : Hub → List Call → Hub
 after h calls = afterAll next h calls
@@ -109,15 +115,21 @@ after h calls = afterAll next h calls
 abbrev pub Accepted : Hub → Call → Type 0
 Accepted h c = answer h c .number ≡ 0
 
--- ---- a call as a sector sees it: its own, another's, or a round begins
+-- ---- a call as a sector sees it: its own, another's, a round begins, or the sector is given a share
 
 pub data Kind : Type 0 where
   own : Kind
   other : Kind
   round : Kind
+  setting : ℕ → Kind
 
 abbrev pub ownOr : ℕ → ℕ → Kind
 ownOr i j = cond (eqb j i) own other
+
+-- by the number of the setting: shares that are refused are given to nobody
+abbrev pub settingBy : ℕ → ℕ → Kind
+settingBy zero share = setting share
+settingBy (suc n) share = other
 
 abbrev pub kind : ℕ → Call → Kind
 kind i (load j rec lent) = ownOr i j
@@ -125,6 +137,7 @@ kind i (run j request lent) = ownOr i j
 kind i (fetch j buffer lent) = ownOr i j
 kind i (heard j) = ownOr i j
 kind i begin = round
+kind i (setShares shares eight) = settingBy (sharesTest shares) (getD shares i 0)
 
 -- the call is lent its sector's area, where it is lent one
 abbrev pub Its : Lent → Type 0
@@ -137,6 +150,7 @@ LentIts (run i request lent) = Its lent
 LentIts (fetch i buffer lent) = Its lent
 LentIts (heard i) = Unit {0}
 LentIts begin = Unit {0}
+LentIts (setShares shares eight) = Unit {0}
 
 -- the premise of `AsAlone` and `SectorDemand3`: each accepted call of the sector is lent its area
 abbrev pub OwnLent : ℕ → Hub → Call → Type 0

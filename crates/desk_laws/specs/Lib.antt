@@ -2,9 +2,10 @@
 pub mod Calls
 pub mod Refusals
 pub mod Alone
-pub mod Others
+pub mod Isolation
 pub mod Rounds
 pub mod Unloaded
 pub mod Sectors
+pub mod Finish
 pub mod Served
 pub mod Numbers

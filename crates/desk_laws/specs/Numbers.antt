@@ -1,11 +1,12 @@
--- Document 02, U7: 12 ahead of all other numbers, 13 after 5, and what stands beside them, as one table with one statement over all its rows, computed from
--- the definitions that the contracts cite. On each of these desks every sector has the same job, in some rows one that no call answers, such as (5, 6). Where it can, a
--- refused row fails the tests that follow as well. Assumes nothing.
+-- Document 02, U7 and U10: 12 ahead of all other numbers, 13 after 5 and by the sector's own count, 14 above 120 in total, and what stands beside them, as
+-- one table with one statement over all its rows, computed from the definitions that the contracts cite. On each of these desks every sector has the same
+-- job, in some rows one that no call answers, such as (5, 6). Where it can, a refused row fails the tests that follow as well. Assumes nothing.
 use mathlib.Core.Path.{_≡_, refl}
-use mathlib.Core.List.{List, [], _∷_}
+use mathlib.Core.List.{List, [], _∷_, _++_}
 use Prim.Native.Nat.{ℕ}
 use lib.IntN.{pos}
-use lib.ListN.{replicate}
+use lib.ListN.{replicate, set}
+use Rattle.integers.specs.Sum.{total}
 use Rattle.refusals.specs.Refusals.{headerTest}
 use Rattle.lists.specs.Lists.{allBelow}
 use Rattle.matrix_record.specs.MatrixRecord.{partOf, antennaHeard, heardBelow}
@@ -19,33 +20,44 @@ use Rattle.engine.specs.Fetch.{fetchRefusal}
 use Rattle.desk.specs.declared.Desk.{Desk}
 use Rattle.desk.specs.Desk.{sectorCount}
 use Rattle.desk.specs.Load.{deskLoadRefusal, deskLoadBy, deskLoadOf}
-use Rattle.desk.specs.Run.{roundTest, deskRunRefusal, deskRunDone, deskRunBy, deskRunOf}
+use Rattle.desk.specs.Run.{countTest, deskRunRefusal, deskRunDone, deskRunBy, deskRunOf}
 use Rattle.desk.specs.Fetch.{deskFetchRefusal, deskFetchBy, deskFetchOf}
 use Rattle.desk.specs.Heard.{deskHeardBy, deskHeardOf}
+use Rattle.desk.specs.Shares.{setSharesBy, setSharesOf}
 
 -- a call with all that it is handed, and the number that it answers
 pub data Example : Type 0 where
   -- sector, record and words of the area
   loading : ℕ → List ℕ → ℕ → ℕ → Example
-  -- job, what the round has left, sector, request and words of the area
-  running : Job → ℕ → ℕ → ℕ → ℕ → ℕ → Example
+  -- job, what the sector has left in the round, what each other one has left, sector, request and words of the area
+  running : Job → ℕ → ℕ → ℕ → ℕ → ℕ → ℕ → Example
   -- job, sector, words of the area, what each of them is, and bytes of the buffer
   fetching : Job → ℕ → ℕ → ℕ → ℕ → ℕ → Example
   -- sector
   hearing : ℕ → ℕ → Example
+  -- shares
+  setting : List ℕ → ℕ → Example
 
 -- a turn number, and turns made
 abbrev pub job : ℕ → ℕ → Job
 job turn made = record { turn = turn; made = made }
 
-abbrev pub deskWith : Job → ℕ → Desk
-deskWith job left = record { jobs = replicate sectorCount job; heard = replicate sectorCount 255; left = left }
+abbrev pub deskWith : Job → List ℕ → Desk
+deskWith job left = record { jobs = replicate sectorCount job; heard = replicate sectorCount 255; shares = replicate sectorCount 0; left = left }
+
+-- all counts used up
+abbrev pub none : List ℕ
+none = replicate sectorCount 0
+
+abbrev pub counts : ℕ → ℕ → ℕ → List ℕ
+counts sector left others = set (replicate sectorCount others) sector left
 
 abbrev pub Answers : Example → Type 0
-Answers (loading sector rec words n) = deskLoadOf (deskWith (job 0 0) 0) sector rec (replicate words (pos 0)) .reply .number ≡ n
-Answers (running job left sector request words n) = deskRunOf (deskWith job left) sector request (replicate words (pos 0)) .reply .number ≡ n
-Answers (fetching job sector words word bytes n) = deskFetchOf (deskWith job 0) sector (replicate words (pos word)) (replicate bytes 0) .reply .number ≡ n
-Answers (hearing sector n) = deskHeardOf (deskWith (job 0 0) 0) sector .number ≡ n
+Answers (loading sector rec words n) = deskLoadOf (deskWith (job 0 0) none) sector rec (replicate words (pos 0)) .reply .number ≡ n
+Answers (running job left others sector request words n) = deskRunOf (deskWith job (counts sector left others)) sector request (replicate words (pos 0)) .reply .number ≡ n
+Answers (fetching job sector words word bytes n) = deskFetchOf (deskWith job none) sector (replicate words (pos word)) (replicate bytes 0) .reply .number ≡ n
+Answers (hearing sector n) = deskHeardOf (deskWith (job 0 0) none) sector .number ≡ n
+Answers (setting shares n) = setSharesOf (deskWith (job 0 0) none) shares .number ≡ n
 
 abbrev pub AllAnswer : List Example → Type 0
 AllAnswer [] = Unit {0}
@@ -63,17 +75,19 @@ examples =
     ∷ loading 7 (1 ∷ replicate 256 0) 512 4
     ∷ loading 7 (1 ∷ 0 ∷ 17 ∷ replicate 254 0) 512 0
     -- ---- Run: 12, 3, 5, 13
-    ∷ running (job 5 6) 0 8 1 511 12
-    ∷ running (job 5 6) 0 7 1 511 3
+    ∷ running (job 5 6) 0 0 8 1 511 12
+    ∷ running (job 5 6) 0 0 7 1 511 3
     -- "13 .. after 5"
-    ∷ running (job 5 6) 0 7 1 512 5
-    ∷ running (job 121 0) 0 7 1 512 5
-    ∷ running (job 5 5) 0 7 1 512 13
-    ∷ running (job 119 0) 0 0 65535 512 13
-    -- accepted: "a request above 0", "an unfinished job", "none left" each fail once
-    ∷ running (job 5 5) 0 7 0 512 0
-    ∷ running (job 120 0) 0 7 1 512 0
-    ∷ running (job 5 5) 1 7 1 512 0
+    ∷ running (job 5 6) 0 0 7 1 512 5
+    ∷ running (job 121 0) 0 0 7 1 512 5
+    ∷ running (job 5 5) 0 0 7 1 512 13
+    -- "13 now means the sector's own count is used up", whatever the others have left
+    ∷ running (job 5 5) 0 15 7 1 512 13
+    ∷ running (job 119 0) 0 120 0 65535 512 13
+    -- accepted: "a request above 0", "an unfinished job", "its own count is used up" each fail once
+    ∷ running (job 5 5) 0 0 7 0 512 0
+    ∷ running (job 120 0) 0 0 7 1 512 0
+    ∷ running (job 5 5) 1 0 7 1 512 0
     -- ---- Fetch: 12, 3, 5, 6, 7, 8
     ∷ fetching (job 121 0) 8 511 1 2048 12
     ∷ fetching (job 121 0) 7 511 1 2048 3
@@ -86,9 +100,18 @@ examples =
     ∷ hearing 8 12
     ∷ hearing 4294967295 12
     ∷ hearing 7 0
+    -- ---- 14: "shares above 120 in total"; their sum is exact, also where it is a small number in 16 bits
+    ∷ setting (replicate 8 15) 0
+    ∷ setting (120 ∷ replicate 7 0) 0
+    ∷ setting (replicate 8 0) 0
+    ∷ setting (16 ∷ replicate 7 15) 14
+    ∷ setting (replicate 7 15 ++ 16 ∷ []) 14
+    ∷ setting (121 ∷ replicate 7 0) 14
+    ∷ setting (replicate 8 8192) 14
+    ∷ setting (replicate 8 65535) 14
     ∷ []
 
 pub desk-numbered : AllAnswer examples
-unfolding examples jobTest loadRefusal runRefusal fetchRefusal headerTest deskLoadOf deskLoadBy deskLoadRefusal deskRunOf deskRunBy deskRunDone deskRunRefusal roundTest deskFetchOf deskFetchBy deskFetchRefusal deskHeardOf deskHeardBy heardBelow antennaHeard partOf allBelow isFinished isFinishedAt R wordIn
+unfolding examples jobTest loadRefusal runRefusal fetchRefusal headerTest deskLoadOf deskLoadBy deskLoadRefusal deskRunOf deskRunBy deskRunDone deskRunRefusal countTest deskFetchOf deskFetchBy deskFetchRefusal deskHeardOf deskHeardBy setSharesOf setSharesBy total heardBelow antennaHeard partOf allBelow isFinished isFinishedAt R wordIn
 desk-numbered =
-    (refl, (refl, (refl, (refl, (refl, (refl, (refl, (refl, (refl, (refl, (refl, (refl, (refl, (refl, (refl, (refl, (refl, (refl, (refl, (refl, (refl, (refl, (refl, (refl, (refl, (refl, (refl, tt)))))))))))))))))))))))))))
+    (refl, (refl, (refl, (refl, (refl, (refl, (refl, (refl, (refl, (refl, (refl, (refl, (refl, (refl, (refl, (refl, (refl, (refl, (refl, (refl, (refl, (refl, (refl, (refl, (refl, (refl, (refl, (refl, (refl, (refl, (refl, (refl, (refl, (refl, (refl, (refl, tt))))))))))))))))))))))))))))))))))))

@@ -1,4 +1,4 @@
--- Document 02, U7: a refused call answers its number and the desk as it was, all other fields 0, and changes neither area nor buffer; and a sector above 7 is
+-- Document 02, U7 and U10: a refused call answers its number and the desk as it was, all other fields 0, and changes neither area nor buffer; and a sector above 7 is
 -- refused with 12, ahead of all other numbers: on every desk, also one that a host made up. Assumes nothing.
 use mathlib.Core.Path.{_≡_}
 use mathlib.Core.List.{List, []}
@@ -6,7 +6,7 @@ use Prim.Native.Nat.{ℕ, _≤_}
 use lib.IntN.{ℤ}
 use Rattle.refusals.specs.Refusals.{noSuchSector}
 use Rattle.desk.specs.Desk.{sectorCount}
-use Rattle.desk_laws.specs.Calls.{Lent, Call, load, run, fetch, heard, begin, Hub, lentWords, bare, answer, next, Accepted}
+use Rattle.desk_laws.specs.Calls.{Lent, Call, load, run, fetch, heard, begin, setShares, Hub, lentWords, bare, answer, next, Accepted}
 
 -- the bytes and the words that a call is lent
 abbrev pub bufferLent : Call → List ℕ
@@ -15,6 +15,7 @@ bufferLent (run i request lent) = []
 bufferLent (fetch i buffer lent) = buffer
 bufferLent (heard i) = []
 bufferLent begin = []
+bufferLent (setShares shares eight) = []
 
 abbrev pub wordsLent : Hub → Call → List ℤ
 wordsLent h (load i rec lent) = lentWords (h .area i) lent
@@ -22,6 +23,7 @@ wordsLent h (run i request lent) = lentWords (h .area i) lent
 wordsLent h (fetch i buffer lent) = lentWords (h .area i) lent
 wordsLent h (heard i) = []
 wordsLent h begin = []
+wordsLent h (setShares shares eight) = []
 
 pub record Unchanged (h : Hub) (c : Call) : Type 0 where
   pub desk : next h c .desk ≡ h .desk

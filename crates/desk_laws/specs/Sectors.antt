@@ -17,7 +17,7 @@ use Rattle.accuracy.specs.Factorization.{Factorization}
 use Rattle.accuracy.specs.Demand3.{Load, State, RunCall, FetchCall, ran, refusal, fetched, start, EachInStep, Kept}
 use Rattle.accuracy.specs.Demand3 as engine
 use Rattle.desk.specs.Desk.{sectorCount, jobAt}
-use Rattle.desk_laws.specs.Calls.{Lent, its, another, Call, load, run, fetch, heard, begin, Hub, new, Answer, bare, answer, next, after, Accepted, Kind, own, other, round, kind, EachLentIts}
+use Rattle.desk_laws.specs.Calls.{Lent, its, another, Call, load, run, fetch, heard, begin, setShares, Hub, new, Answer, bare, answer, next, after, Accepted, Kind, own, other, round, setting, kind, EachLentIts}
 use Rattle.desk_laws.specs.Unloaded.{EachNoLoad}
 
 -- ---- the sector's calls as the engine has them
@@ -42,8 +42,10 @@ engineCall own number job (fetch i buffer lent) count = engine.fetch (engineFetc
 engineCall own number job (load i rec lent) count = []
 engineCall own number job (heard i) count = []
 engineCall own number job begin count = []
+engineCall own number job (setShares shares eight) count = []
 engineCall other number job c count = []
 engineCall round number job c count = []
+engineCall (setting s) number job c count = []
 
 unfoldable pub engineCalls : ℕ → Hub → List Call → List engine.Call
 engineCalls i h [] = []

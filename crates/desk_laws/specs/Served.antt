@@ -1,31 +1,63 @@
--- The premises of the laws can be met. Assumes nothing.
+-- The premises of the laws can be met, for every share from 1 to 120; and U10's number of rounds is sharp. Assumes nothing.
 use mathlib.Core.Path.{_≡_}
 use mathlib.Core.List.{List, [], _∷_, _++_}
-use Prim.Native.Nat.{ℕ, _≤_, _<_}
+use Prim.Native.Nat.{ℕ, _-_, _*_, _≤_, _<_, min}
 use lib.IntN.{ℤ}
-use lib.ListN.{length}
+use lib.ListN.{length, replicate, set, length-set}
 use Rattle.lists.specs.Histories.{Place}
+use Rattle.schedule.specs.Schedule.{rotationCount}
 use Rattle.result_record.specs.ResultRecord.{resultBytes}
 use Rattle.accuracy.specs.Demand3.{Load}
-use Rattle.desk.specs.Desk.{sectorCount, roundTurns}
-use Rattle.desk_laws.specs.Calls.{its, Call, load, run, fetch, heard, begin, new, next, after, Accepted, own, kind, EachLentIts}
-use Rattle.desk_laws.specs.Others.{mine, view}
+use Rattle.desk.specs.Desk.{sectorCount, roundTurns, jobAt}
+use Rattle.desk_laws.specs.Calls.{its, Call, load, run, fetch, heard, begin, setShares, Hub, new, after, Accepted, other, kind, EachLentIts}
 use Rattle.desk_laws.specs.Unloaded.{EachNoLoad}
+use Rattle.desk_laws.specs.Finish.{EachUndisturbed, inRounds, EachRequests, roundedUp}
 
--- ---- a sector is loaded; others do what they like, and rounds begin; then it asks for 120 turns at the start of a round, and its result is fetched
+-- ---- a sector is given a share and loaded; then, in each of some rounds, others do what they like, and it requests its share
 
-abbrev pub serving : ℕ → List Call → List ℕ → List Call
-serving i between buffer = between ++ begin ∷ run i 120 its ∷ fetch i buffer its ∷ []
+-- s for the sector, and none for the others
+abbrev pub onlyFor : ℕ → ℕ → List ℕ
+onlyFor i s = set (replicate sectorCount 0) i s
 
-pub record Served (i : ℕ) (areas : ℕ → List ℤ) (l : Load) (between : List Call) (buffer : List ℕ) : Type 0 where
-  pub not-loaded : EachNoLoad i (next (new areas) (load i (l .bytes) its)) (serving i between buffer)
-  pub lent : EachLentIts i (new areas) (load i (l .bytes) its ∷ serving i between buffer)
-  -- the Fetch, the last call, is accepted
-  pub accepted : Accepted (after (new areas) (load i (l .bytes) its ∷ between ++ begin ∷ run i 120 its ∷ [])) (fetch i buffer its)
+abbrev pub giving : ℕ → ℕ → Call
+giving i s = setShares (onlyFor i s) (length-set (replicate sectorCount 0) i s)
 
-abbrev pub ServedWhole : Type 0
-ServedWhole = (i : ℕ) (areas : ℕ → List ℤ) (l : Load) (between : List Call) (buffer : List ℕ) → i < sectorCount → l .lent ≡ areas i
-    → ((c : Call) → Place c between → kind i c ≡ own → ⊥) → resultBytes ≤ length buffer → Served i areas l between buffer
+abbrev pub requesting : ℕ → ℕ → List Call → ℕ → List (List Call)
+requesting i s others m = replicate m (others ++ run i s its ∷ [])
+
+-- the hub after the Load, and after m rounds
+abbrev pub loadedHub : ℕ → ℕ → (ℕ → List ℤ) → Load → Hub
+loadedHub i s areas l = after (new areas) (giving i s ∷ load i (l .bytes) its ∷ [])
+
+abbrev pub servedHub : ℕ → ℕ → (ℕ → List ℤ) → Load → List Call → ℕ → Hub
+servedHub i s areas l others m = after (loadedHub i s areas l) (inRounds (requesting i s others m))
+
+pub record Served (i s : ℕ) (areas : ℕ → List ℤ) (l : Load) (others : List Call) (m : ℕ) (buffer : List ℕ) : Type 0 where
+  -- the premises of `FinishesInTime`
+  pub loaded : Accepted (after (new areas) (giving i s ∷ [])) (load i (l .bytes) its)
+  pub undisturbed : EachUndisturbed i s (loadedHub i s areas l) (inRounds (requesting i s others m))
+  pub requests : EachRequests i s (loadedHub i s areas l) (requesting i s others m)
+  -- those of `AsAlone` and `SectorDemand3`
+  pub lent : EachLentIts i (new areas) (giving i s ∷ load i (l .bytes) its ∷ inRounds (requesting i s others m) ++ fetch i buffer its ∷ [])
+  pub not-loaded : EachNoLoad i (loadedHub i s areas l) (inRounds (requesting i s others m) ++ fetch i buffer its ∷ [])
+  -- each round grants the share, as long as the job has so much left
+  pub turn : jobAt (servedHub i s areas l others m .desk) i .turn ≡ min (m * s) rotationCount
+  -- and once it is finished, its result is fetched
+  pub accepted : rotationCount ≤ m * s → Accepted (servedHub i s areas l others m) (fetch i buffer its)
+
+abbrev pub ServedInRounds : Type 0
+ServedInRounds = (i s : ℕ) (areas : ℕ → List ℤ) (l : Load) (others : List Call) (m : ℕ) (buffer : List ℕ) → i < sectorCount → 0 < s → s ≤ roundTurns → l .lent ≡ areas i
+    → ((c : Call) → Place c others → kind i c ≡ other) → resultBytes ≤ length buffer → Served i s areas l others m buffer
+
+-- ---- one round fewer than 120 divided by s, rounded up, does not do, whatever s is; with s = 7, for one, 17 rounds leave the job at 119
+pub record Sharp (i : ℕ) (areas : ℕ → List ℤ) (l : Load) (others : List Call) : Type 0 where
+  pub one-fewer : (s : ℕ) → 0 < s → s ≤ roundTurns → jobAt (servedHub i s areas l others (roundedUp rotationCount s - 1) .desk) i .turn < rotationCount
+  pub eighteen : roundedUp rotationCount 7 ≡ 18
+  pub seventeen : jobAt (servedHub i 7 areas l others 17 .desk) i .turn ≡ 119
+
+abbrev pub NoRoundFewer : Type 0
+NoRoundFewer = (i : ℕ) (areas : ℕ → List ℤ) (l : Load) (others : List Call) → i < sectorCount → l .lent ≡ areas i
+    → ((c : Call) → Place c others → kind i c ≡ other) → Sharp i areas l others
 
 -- ---- a sector whose only Load is refused, and that makes every other call
 abbrev pub unserved : ℕ → ℕ → List ℕ → List Call
@@ -33,8 +65,3 @@ unserved i request buffer = load i [] its ∷ run i request its ∷ begin ∷ fe
 
 abbrev pub UnservedPossible : Type 0
 UnservedPossible = (i request : ℕ) (areas : ℕ → List ℤ) (buffer : List ℕ) → i < sectorCount → EachNoLoad i (new areas) (unserved i request buffer)
-
--- ---- what a sector sees of another that is loaded, with whatever matrix, and then granted n turns: the number n, whichever sector it is
-abbrev pub TurnsSeen : Type 0
-TurnsSeen = (i j n : ℕ) (areas : ℕ → List ℤ) (l : Load) (c : Call) → (i ≡ j → ⊥) → j < sectorCount → n ≤ roundTurns → l .lent ≡ areas j
-    → kind i c ≡ own → view i (new areas) 0 (load j (l .bytes) its ∷ run j n its ∷ c ∷ []) ≡ mine c n ∷ []

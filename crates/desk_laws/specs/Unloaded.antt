@@ -10,7 +10,7 @@ use Rattle.result_record.specs.ResultRecord.{resultBytes, resultTest}
 use Rattle.workspace.specs.Workspace.{workspaceTest, R}
 use Rattle.engine.specs.Fetch.{fetchBy}
 use Rattle.desk.specs.Desk.{sectorCount, unloadedJob, jobAt, heardAt}
-use Rattle.desk_laws.specs.Calls.{Lent, Call, load, run, fetch, heard, begin, Hub, new, lentWords, Answer, bare, answer, next, after, Accepted, own, kind}
+use Rattle.desk_laws.specs.Calls.{Lent, Call, load, run, fetch, heard, begin, setShares, Hub, new, lentWords, Answer, bare, answer, next, after, Accepted, own, kind}
 
 abbrev pub IsLoad : Call → Type 0
 IsLoad (load i rec lent) = Unit {0}
@@ -18,6 +18,7 @@ IsLoad (run i request lent) = ⊥
 IsLoad (fetch i buffer lent) = ⊥
 IsLoad (heard i) = ⊥
 IsLoad begin = ⊥
+IsLoad (setShares shares eight) = ⊥
 
 -- no Load of the sector is accepted
 abbrev pub NoLoad : ℕ → Hub → Call → Type 0
@@ -34,7 +35,7 @@ ranNothing (suc n) l = bare (suc n) [] l
 pub record Unloaded (i : ℕ) (h : Hub) : Type 0 where
   pub job : jobAt (h .desk) i ≡ unloadedJob
   pub heard : heardAt (h .desk) i ≡ 0
-  -- its Run is refused by 3 alone, whatever the request and whatever the round has left, and makes nothing
+  -- its Run is refused by 3 alone, whatever the request and whatever its count, and makes nothing
   pub run : (request : ℕ) (lent : Lent) → (let l = lentWords (h .area i) lent in answer h (run i request lent) ≡ ranNothing (workspaceTest l) l)
   -- its Fetch is refused by 3, 7 or 8 alone, and else writes the record of what the area holds
   pub fetch : (buffer : List ℕ) (lent : Lent)

@@ -4,12 +4,14 @@ use desk::DeskReply;
 use desk::heard::DeskHeardReply;
 use desk::load::DeskLoadReply;
 use desk::run::DeskRunReply;
+use desk::shares::Shares;
 ghost use mathlib.Core.Path.{_≡_};
 ghost use Rattle.desk.specs.Desk.{newDesk, beginOf};
 ghost use Rattle.desk.specs.Load.{DeskLoadOutcome, deskLoadOf};
 ghost use Rattle.desk.specs.Run.{DeskRunOutcome, deskRunOf};
 ghost use Rattle.desk.specs.Fetch.{DeskFetchOutcome, deskFetchOf};
 ghost use Rattle.desk.specs.Heard.{deskHeardOf};
+ghost use Rattle.desk.specs.Shares.{setSharesOf};
 
 #[no_mangle]
 pub extern "C" fn hubqr_desk_new() -> Desk
@@ -66,4 +68,11 @@ pub extern "C" fn hubqr_desk_heard(desk: Desk, sector: u32) -> DeskHeardReply
     ensures { λ r. ⌜ r ≡ deskHeardOf desk sector ⌝ }
 {
     desk::heard::heard(desk, sector)
+}
+
+#[no_mangle]
+pub extern "C" fn hubqr_desk_set_shares(desk: Desk, shares: Shares) -> DeskReply
+    ensures { λ r. ⌜ r ≡ setSharesOf desk (shares .shares) ⌝ }
+{
+    desk::shares::set_shares(desk, shares)
 }

@@ -155,11 +155,21 @@ unfolding sum total
 sum-total zero g = refl
 sum-total (suc n) g = ap (λ x. x +ℤ pos (g n)) (sum-total n g)
 
+-- only one term counts
+pub total-one : (n : ℕ) (g : ℕ → ℕ) (u : ℕ) → u < n → ((r : ℕ) → r < n → r ≢ u → g r ≡ 0) → total n g ≡ g u
+total-one n g u h rest = ap natAbs (sym (sum-total n g) ∙ sum-one n (λ r. pos (g r)) u h (λ r l d. ap pos (rest r l d)))
+
 -- the same terms have the same total
 pub total-same : (n : ℕ) (f g : ℕ → ℕ) → ((k : ℕ) → k < n → f k ≡ g k) → total n f ≡ total n g
 unfolding total
 total-same zero f g h = refl
 total-same (suc n) f g h = rw (total-same n f g (λ k p. h k (omega arith)), h n (le-refl (suc n)))
+
+-- larger terms have a larger total
+pub total-mono : (n : ℕ) (f g : ℕ → ℕ) → ((k : ℕ) → k < n → f k ≤ g k) → total n f ≤ total n g
+unfolding total
+total-mono zero f g h = le-refl 0
+total-mono (suc n) f g h = omega (arith, total-mono n f g (λ k p. h k (omega arith)), h n (le-refl (suc n)))
 
 pub total-zero : (n : ℕ) (g : ℕ → ℕ) → ((r : ℕ) → r < n → g r ≡ 0) → total n g ≡ 0
 unfolding total

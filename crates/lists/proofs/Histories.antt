@@ -59,7 +59,17 @@ module _ {S C : Type 0} (next : S → C → S) where
     each-before s calls p each c q =
         each c (record { before = q .before; rest = q .rest ++ p .rest; is = p .is ∙ ap (λ (t : List C). t ++ p .rest) (q .is) ∙ append-assoc (q .before) (c ∷ q .rest) (p .rest) })
 
-    -- one list after another
+    -- one list after another, and each of the two by itself
+    pub along-first : (s : S) (a b : List C) → Along s (a ++ b) → Along s a
+    unfolding Along
+    along-first s [] b x = tt
+    along-first s (c ∷ a) b x = (x .0, along-first (next s c) a b (x .1))
+
+    pub along-rest : (s : S) (a b : List C) → Along s (a ++ b) → Along (afterAll next s a) b
+    unfolding Along afterAll
+    along-rest s [] b x = x
+    along-rest s (c ∷ a) b x = along-rest (next s c) a b (x .1)
+
     pub along-append : (s : S) (a b : List C) → Along s a → Along (afterAll next s a) b → Along s (a ++ b)
     unfolding Along afterAll
     along-append s [] b x y = y

@@ -57,9 +57,13 @@ zeroDiagonal = 11
 abbrev pub noSuchSector : ℕ
 noSuchSector = 12
 
--- turns are asked for, for an unfinished job, and the round has none left (document 02, U7)
-abbrev pub roundUsedUp : ℕ
-roundUsedUp = 13
+-- turns are asked for, for an unfinished job, and the sector has none left in the round (document 02, U7 and U10)
+abbrev pub countUsedUp : ℕ
+countUsedUp = 13
+
+-- shares above 120 in total (document 02, U10)
+abbrev pub sharesExceedRound : ℕ
+sharesExceedRound = 14
 
 -- ---- tests in sequence
 

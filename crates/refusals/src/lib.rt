@@ -27,7 +27,9 @@ pub const ZERO_DIAGONAL: u8 = 11;
 
 pub const NO_SUCH_SECTOR: u8 = 12;
 
-pub const ROUND_USED_UP: u8 = 13;
+pub const COUNT_USED_UP: u8 = 13;
+
+pub const SHARES_EXCEED_ROUND: u8 = 14;
 
 // Tests 1 and 2 of a record that has this tag and this length: the number of the first that fails, 0 for none.
 pub fn header_refusal(bytes: &[u8], tag: u8, size: usize) -> u8

@@ -127,16 +127,17 @@ pub struct WeightsReply {
     pub weights: [Weight; 8],
 }
 
-/// How far the work for the eight sectors of a hub is, and what the round has left: 76 plain bytes
-/// that the caller keeps from call to call. Its methods are the calls.
+/// How far the work for the eight sectors of a hub is, their shares, and what each has left in the
+/// round: 104 plain bytes that the caller keeps from call to call. Its methods are the calls.
 ///
 /// Each call needs the desk that the last one left. An older desk, such as a clone that was kept, is
-/// not noticed: its round grants turns a second time, and its jobs no longer fit their areas.
+/// not noticed: its counts grant turns a second time, and its jobs no longer fit their areas.
 ///
-/// A desk that a caller has made up is taken as it is by every call. A job that
-/// [`run`](crate::run) would refuse with [`Refusal::NoSuchJob`](crate::Refusal::NoSuchJob) is refused
-/// so here, until its sector is loaded again. What is said of a sector that was loaded, or never
-/// loaded, is for desks that came from [`new`](Desk::new) and are changed by the calls alone.
+/// A desk that a caller has made up is taken as it is by every call: shares and what is left may be up
+/// to 65,535 each. A job that [`run`](crate::run) would refuse with
+/// [`Refusal::NoSuchJob`](crate::Refusal::NoSuchJob) is refused so here, until its sector is loaded
+/// again. What is said of a sector that was loaded, or never loaded, and of all shares together is for
+/// desks that came from [`new`](Desk::new) and are changed by the calls alone.
 #[repr(C)]
 #[derive(Clone, Debug, PartialEq, Eq)]
 pub struct Desk {
@@ -144,11 +145,21 @@ pub struct Desk {
     pub jobs: [Job; 8],
     /// The heard byte of sector k at place k. It is 0 until the sector is loaded for the first time.
     pub heard: [u8; 8],
-    /// The turns that the round has left.
-    pub left: u16,
+    /// The share of sector k at place k: the turns that it has left when a round begins.
+    pub shares: [u16; 8],
+    /// The turns that sector k has left in the round, at place k.
+    pub left: [u16; 8],
 }
 
-/// What beginning a round and a sector's Fetch answer.
+/// The shares of all sectors, as the call that sets them takes them.
+#[repr(C)]
+#[derive(Clone, Copy, Debug, PartialEq, Eq)]
+pub struct Shares {
+    /// The share of sector k at place k.
+    pub shares: [u16; 8],
+}
+
+/// What beginning a round, setting shares and a sector's Fetch answer.
 #[repr(C)]
 #[derive(Clone, Debug, PartialEq, Eq)]
 pub struct DeskReply {
@@ -256,11 +267,14 @@ extern "C" {
     /// Works out the weights that a result record gives for eight targets.
     pub fn hubqr_weights(record: *const u8, record_len: usize, targets: Snapshot) -> WeightsReply;
 
-    /// A new desk: no sector is loaded, and the round has 120 turns left.
+    /// A new desk: no sector is loaded, and each has a share of 15 turns, all of them left.
     pub fn hubqr_desk_new() -> Desk;
 
-    /// Begins a round of 120 turns.
+    /// Begins a round: each sector's count is refilled from its share.
     pub fn hubqr_desk_begin(desk: Desk) -> DeskReply;
+
+    /// Sets the shares of all sectors, which count from the next round on.
+    pub fn hubqr_desk_set_shares(desk: Desk, shares: Shares) -> DeskReply;
 
     /// Fills a sector's area from a matrix record.
     pub fn hubqr_desk_load(
@@ -272,7 +286,8 @@ extern "C" {
         area_len: usize,
     ) -> DeskLoadReply;
 
-    /// Goes on by the smallest of `request`, what the round has left and what the sector's job has left.
+    /// Goes on by the smallest of `request`, what the sector has left in the round and what its job has
+    /// left.
     pub fn hubqr_desk_run(
         desk: Desk,
         sector: u32,

@@ -48,9 +48,10 @@
 //! record.
 //!
 //! The **desk** serves a hub's eight **sectors**, each with its own job, heard byte and area, by
-//! **rounds** that have 120 turns for all sectors together. [`Desk`] holds the jobs, the heard bytes
-//! and what the round has left; its methods are the calls; all but `new` and `begin` are for one
-//! sector.
+//! **rounds**. When a round begins, each sector has the turns of its own **share**, which no other
+//! sector can use; the shares of all are at most 120 together. [`Desk`] holds the jobs, the heard
+//! bytes, the shares and what each sector has left in the round; its methods are the calls; all but
+//! `new`, `begin` and `set_shares` are for one sector.
 //!
 //! Areas and buffers may be longer than needed: what lies behind is not touched. A refused call
 //! changes nothing that it was lent.
@@ -111,13 +112,14 @@
 //! # let records = [[1; hubqr::MATRIX_RECORD_BYTES]; 2];
 //! let mut areas = [[0; hubqr::AREA_WORDS]; 2];
 //! let mut desk = hubqr::Desk::new();
+//! desk.set_shares([80, 40, 0, 0, 0, 0, 0, 0])?; // two sectors, and one is busy
 //! for (sector, area) in (0..).zip(&mut areas) {
 //!     desk.load(sector, &records[sector as usize], area)?;
 //! }
 //! while desk.jobs.iter().any(|job| !job.is_finished()) {
-//!     desk.begin()?; // 120 turns for all sectors together
+//!     desk.begin()?; // each sector has the turns of its share
 //!     for (sector, area) in (0..).zip(&mut areas) {
-//!         desk.run(sector, 15, area)?; // 120 are enough for eight sectors with 15 each
+//!         desk.run(sector, desk.shares[sector as usize], area)?;
 //!         // other work goes here
 //!     }
 //! }
@@ -194,8 +196,10 @@ pub const SUM_WORDS: usize = 128;
 
 /// Sectors of a hub.
 pub const SECTORS: usize = 8;
-/// Turns that a round has for all sectors together.
+/// Turns of a round, which the shares of all sectors make together at most.
 pub const ROUND_TURNS: u16 = 120;
+/// The share that each sector of a new desk has.
+pub const FIRST_SHARE: u16 = 15;
 
 /// First byte of a matrix record.
 pub const KIND_MATRIX: u8 = 1;

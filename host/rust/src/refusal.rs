@@ -58,7 +58,9 @@ refusals! {
                           or a sum is beyond 2^31 times the count";
     ZeroDiagonal = 11, "one of R's 16 diagonal words is 0";
     NoSuchSector = 12, "the sector is above 7";
-    RoundUsedUp = 13, "turns are requested for an unfinished job, and the round has none left";
+    CountUsedUp = 13, "turns are requested for an unfinished job, \
+                       and the sector has none left in the round";
+    SharesExceedRound = 14, "the shares are above 120 in total";
 }
 
 impl Refusal {

@@ -8,7 +8,7 @@ use std::collections::BTreeMap;
 
 use reference::accuracy::Errors;
 use reference::area::{WorkArea, AREA_WORDS};
-use reference::desk::{self, Desk, DeskReply, SECTORS};
+use reference::desk::{self, Desk, DeskReply, Seat, SECTORS};
 use reference::job::Job;
 use reference::random::Random;
 use reference::records::RESULT_RECORD;
@@ -181,6 +181,7 @@ impl<'a> BothDesk<'a> {
         let (area, buffer) = (&mut self.areas[lent.area].words, &mut self.buffer);
         match call {
             Call::Begin => engine::desk_begin(desk),
+            Call::SetShares { shares } => engine::desk_set_shares(desk, *shares),
             Call::Load { sector, record } => {
                 let mut handed = record.clone();
                 let reply = engine::desk_load(desk, *sector, &mut handed, area.engine());
@@ -201,6 +202,7 @@ impl<'a> BothDesk<'a> {
         let (area, buffer) = (&mut self.areas[lent.area].words, &mut self.buffer);
         match call {
             Call::Begin => desk::begin(desk),
+            Call::SetShares { shares } => desk::set_shares(desk, shares),
             Call::Load { sector, record } => desk::load(desk, *sector, record, area.reference()),
             Call::Run { sector, request } => desk::run(desk, *sector, *request, area.reference()),
             Call::Fetch { sector } => {
@@ -225,42 +227,51 @@ impl<'a> BothDesk<'a> {
         }
     }
 
-    /// What holds of an accepted call.
+    /// What holds of an accepted call: which seats of the desk it changes, and how.
     fn follow(&mut self, handed: &Desk, call: &Call, lent: Lent, reply: &DeskReply) {
+        let mut due = *handed;
         match call {
-            Call::Begin => {
-                let begun = Desk {
-                    left: 120,
-                    ..*handed
+            Call::Begin => due.seats.iter_mut().for_each(|seat| seat.left = seat.share),
+            Call::SetShares { shares } => {
+                (0..SECTORS).for_each(|k| due.seats[k].share = shares[k]);
+                let total: u64 = shares.iter().map(|share| u64::from(*share)).sum();
+                self.require(total <= 120, "shares above 120 in total were set");
+            }
+            Call::Load { sector, record } => {
+                let (job, heard) = (Job::new(0, 0), reply.heard);
+                let seat = &mut due.seats[*sector as usize];
+                *seat = Seat {
+                    job,
+                    heard,
+                    ..*seat
                 };
-                self.require(reply.desk == begun, "a round begins with another desk");
+                self.areas[lent.area].loaded = Some(Loaded::new(record));
             }
-            Call::Load { record, .. } => self.areas[lent.area].loaded = Some(Loaded::new(record)),
             Call::Run { sector, request } => {
-                let job = handed.seats[*sector as usize].job;
-                self.require_granted(handed.left, job, *request, reply);
-                if reply.count > 0 {
-                    self.follow_matrix(lent.area, job, reply.job);
+                let seat = &mut due.seats[*sector as usize];
+                let granted = self.require_granted(seat, *request, reply);
+                if granted > 0 {
+                    self.follow_matrix(lent.area, seat.job, reply.job);
                 }
+                (seat.job, seat.left) = (reply.job, seat.left - granted);
             }
-            Call::Fetch { .. } | Call::Heard { .. } => {
-                self.require(reply.desk == *handed, "another desk was answered");
-            }
+            Call::Fetch { .. } | Call::Heard { .. } => {}
         }
+        self.require(reply.desk == due, "another desk was answered");
     }
 
-    /// The smallest of the request, what the round had left and what the job had left is granted
-    /// and paid for, and no more turns are made.
-    fn require_granted(&self, left: u16, job: Job, request: u16, reply: &DeskReply) {
-        let smallest = request.min(left).min(120 - job.turn as u16);
+    /// The smallest of the request, what the sector had left and what its job had left is granted,
+    /// and no more turns are made.
+    fn require_granted(&self, seat: &Seat, request: u16, reply: &DeskReply) -> u16 {
+        let job = seat.job;
+        let smallest = request.min(seat.left).min(120 - job.turn as u16);
         let granted = reply.count == u32::from(smallest);
         self.require(granted, "another number of turns was granted");
-        let paid = reply.desk.left == left - smallest;
-        self.require(paid, "another number of turns was paid for");
         let Job { turn, made } = reply.job;
         let within = job.made <= made && made <= job.made + reply.count && made <= turn;
         let grown = turn == job.turn + reply.count && within;
         self.require(grown, "the job grew by other turns than those granted");
+        smallest
     }
 
     /// The last Run of a matrix that was worked in step leaves an accurate R and Q, at whichever

@@ -5,7 +5,7 @@
 use hubqr::ffi;
 use reference::clamps::Clamps;
 use reference::covariance::Snapshot;
-use reference::desk::{Desk, DeskReply, Seat};
+use reference::desk::{Desk, DeskReply, Seat, SECTORS};
 use reference::job::Job;
 use reference::replies::{FetchReply, LoadReply, ReadReply, RunReply, WholeReply};
 use reference::weights::WeightsReply;
@@ -129,23 +129,25 @@ pub fn weights(record: &mut [u8], targets: &Targets) -> WeightsReply {
     }
 }
 
-/// The jobs of all sectors, their heard bytes, and what the round has left.
-fn handed_desk(Desk { seats, left }: &Desk) -> ffi::Desk {
+/// The jobs of all sectors, their heard bytes, their shares, and what they have left.
+fn handed_desk(Desk { seats }: &Desk) -> ffi::Desk {
     ffi::Desk {
         jobs: seats.map(|seat| handed(seat.job)),
         heard: seats.map(|seat| seat.heard),
-        left: *left,
+        shares: seats.map(|seat| seat.share),
+        left: seats.map(|seat| seat.left),
     }
 }
 
-fn answered_desk(ffi::Desk { jobs, heard, left }: ffi::Desk) -> Desk {
+fn answered_desk(desk: ffi::Desk) -> Desk {
     let seat = |k| Seat {
-        job: answered(jobs[k]),
-        heard: heard[k],
+        job: answered(desk.jobs[k]),
+        heard: desk.heard[k],
+        share: desk.shares[k],
+        left: desk.left[k],
     };
     Desk {
         seats: std::array::from_fn(seat),
-        left,
     }
 }
 
@@ -155,6 +157,15 @@ pub fn desk_new() -> Desk {
 
 pub fn desk_begin(desk: &Desk) -> DeskReply {
     let reply = unsafe { ffi::hubqr_desk_begin(handed_desk(desk)) };
+    DeskReply {
+        number: reply.number,
+        ..DeskReply::from(answered_desk(reply.desk))
+    }
+}
+
+pub fn desk_set_shares(desk: &Desk, shares: [u16; SECTORS]) -> DeskReply {
+    let shares = ffi::Shares { shares };
+    let reply = unsafe { ffi::hubqr_desk_set_shares(handed_desk(desk), shares) };
     DeskReply {
         number: reply.number,
         ..DeskReply::from(answered_desk(reply.desk))

@@ -51,7 +51,7 @@ impl Alone {
                 let same = fetched.is_ok() && both.fetched() == result;
                 both.require(same, "alone, another result");
             }
-            Call::Begin | Call::Heard { .. } => {}
+            Call::Begin | Call::SetShares { .. } | Call::Heard { .. } => {}
         }
     }
 

@@ -1,11 +1,12 @@
 //! Histories of calls from a new desk on, each handed the desk that the last one answered.
 
-use reference::desk::DeskReply;
+use reference::desk::{DeskReply, FIRST_SHARE, SECTORS};
 
 use crate::alone::Alone;
 use crate::common::desk::{BothDesk, Call, Seen};
 use crate::common::Case;
 use crate::rules::OtherAnswers;
+use crate::shares::{total, Shares};
 use crate::steps::{Areas, Step, Steps};
 
 /// Histories in which each sector has its own area, and such in which any area is lent.
@@ -13,12 +14,15 @@ const OWN_AREAS: u64 = 5_000;
 const ANY_AREAS: u64 = 2_500;
 
 /// Every number that the calls can give.
-const NUMBERS: [u8; 10] = [1, 2, 3, 4, 5, 6, 7, 8, 12, 13];
+const NUMBERS: [u8; 11] = [1, 2, 3, 4, 5, 6, 7, 8, 12, 13, 14];
 
 /// What the test itself keeps of a history.
 struct Book {
-    /// The turns granted in the round.
-    granted: u32,
+    /// The shares that were set last, and those that the round began with.
+    set: Shares,
+    begun: Shares,
+    /// The turns granted to each sector in the round.
+    granted: [u32; SECTORS],
     /// The sectors without the desk, where each has its own area.
     alone: Option<[Alone; 8]>,
 }
@@ -26,18 +30,17 @@ struct Book {
 impl Book {
     fn new(both: &BothDesk, areas: Areas) -> Self {
         let alone = (areas == Areas::Own).then(|| Alone::all(both));
-        Book { granted: 0, alone }
+        Book {
+            set: [FIRST_SHARE; SECTORS],
+            begun: [FIRST_SHARE; SECTORS],
+            granted: [0; SECTORS],
+            alone,
+        }
     }
 
     /// Holds one call to the laws.
     fn enter(&mut self, both: &BothDesk, step: &Step, reply: &DeskReply) {
-        if matches!(step.call, Call::Begin) {
-            self.granted = 0;
-        }
-        self.granted += reply.count;
-        both.require(self.granted <= 120, "a round had more than 120 turns");
-        let left = 120 - self.granted == both.desk().left.into();
-        both.require(left, "the round has another number of turns left");
+        self.enter_round(both, &step.call, reply);
         let Some(alone) = &mut self.alone else { return };
         if let Some(alone) = step.call.sector().and_then(|s| alone.get_mut(s as usize)) {
             if reply.number == 0 {
@@ -48,6 +51,28 @@ impl Book {
         }
         alone.iter().for_each(|alone| alone.require_same(both));
     }
+
+    /// What a sector was granted in the round and what it has left make its share when the round
+    /// began. Neither the shares of all nor the turns granted to all are ever more than 120.
+    fn enter_round(&mut self, both: &BothDesk, call: &Call, reply: &DeskReply) {
+        match call {
+            Call::Begin => (self.begun, self.granted) = (self.set, [0; SECTORS]),
+            Call::SetShares { shares } if reply.number == 0 => self.set = *shares,
+            Call::Run { sector, .. } if reply.number == 0 => {
+                self.granted[*sector as usize] += reply.count;
+            }
+            _ => {}
+        }
+        for (k, seat) in both.desk().seats.iter().enumerate() {
+            both.require(seat.share == self.set[k], "a sector has another share");
+            let made = self.granted[k] + u32::from(seat.left) == self.begun[k].into();
+            both.require(made, "a sector has another number of turns left");
+        }
+        let shares = both.desk().seats.map(|seat| seat.share);
+        both.require(total(&shares) <= 120, "the shares are above 120 in total");
+        let granted: u32 = self.granted.iter().sum();
+        both.require(granted <= 120, "a round had more than 120 turns");
+    }
 }
 
 /// Makes the calls of one history, and holds each to the laws and to the other rules.
@@ -57,8 +82,8 @@ fn make_history(case: Case, areas: Areas, seen: &mut Seen, noticed: &mut OtherAn
     let steps = Steps { areas, served };
     let mut both = BothDesk::new(case, seen);
     let mut book = Book::new(&both, areas);
-    for _ in 0..random.between(10, 50) {
-        let step = steps.draw(&mut random);
+    let count = random.between(10, 50) as usize;
+    for step in steps.history(count, &mut random) {
         let handed = step.handed(both.desk());
         let reply = step.make(&mut both);
         noticed.look(&handed, &step, &reply);

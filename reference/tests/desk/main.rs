@@ -4,12 +4,16 @@
 mod common;
 
 mod alone;
+mod finish;
 mod handed_in;
 mod histories;
+mod hub;
+mod isolation;
 mod never_loaded;
 mod numbers;
-mod others;
 mod rounds;
 mod rules;
 mod sectors;
+mod settings;
+mod shares;
 mod steps;

@@ -1,7 +1,7 @@
 //! Sectors never loaded: they have the job (120, 0) and heard byte 0.
 
 use reference::area::AREA_WORDS;
-use reference::desk::Desk;
+use reference::desk::{Desk, Seat, SECTORS};
 use reference::job::Job;
 use reference::records::RESULT_RECORD;
 
@@ -10,7 +10,7 @@ use crate::common::words::arbitrary_area;
 use crate::common::Case;
 use crate::steps::good_record;
 
-/// A Run is accepted and makes nothing, whatever the round has left and whatever the area holds.
+/// A Run is accepted and makes nothing, whatever the sector has left and whatever the area holds.
 #[test]
 fn a_run_makes_nothing() {
     let mut seen = Seen::default();
@@ -22,7 +22,8 @@ fn a_run_makes_nothing() {
         let lent = Lent::area(0);
         let short = Lent { words: 511, ..lent };
         for left in [0, 1, 119, 120] {
-            let desk = Desk { left, ..Desk::NEW };
+            let seats = [Seat { left, ..Seat::NEW }; SECTORS];
+            let desk = Desk { seats };
             for request in [0, 1, 120, u16::MAX] {
                 let run = Call::Run { sector, request };
                 let reply = both.call_handed(&desk, &run, lent);

@@ -196,7 +196,7 @@ fn a_refused_fetch_answers_the_first_test_that_fails() {
     seen.print("Sets of tests at Fetch");
 }
 
-/// Neither looks at a job or at what is left, and a round begins at any desk.
+/// Neither looks at a job, at a share or at what is left, and a round begins at any desk.
 #[test]
 fn heard_refuses_sectors_above_7_and_begin_nothing() {
     let mut seen = Seen::default();
@@ -210,9 +210,7 @@ fn heard_refuses_sectors_above_7_and_begin_nothing() {
             let call = Call::Heard { sector };
             numbers.call(&desk, &call, Lent::area(0), [(12, sector > 7)]);
         }
-        let reply = numbers.both.call_handed(&desk, &Call::Begin, Lent::area(0));
-        assert_eq!(reply.number, 0);
-        assert_eq!(reply.desk, Desk { left: 120, ..desk });
+        numbers.call(&desk, &Call::Begin, Lent::area(0), []);
     }
     numbers.assert_all_sets(1);
     seen.print("Sets of tests at Heard, and Begin");

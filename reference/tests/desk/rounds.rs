@@ -1,71 +1,24 @@
-//! Rounds: what is granted, what is paid for, and what happens when nothing is left.
+//! Rounds: what is granted, what is paid for, and what happens when a sector has nothing left.
 
 use reference::area::AREA_WORDS;
+use reference::desk::Desk;
 use reference::job::Job;
-use reference::matrix::{Complex, Matrix, REAL_SIZE};
-use reference::random::Random;
-use reference::records::write_matrix;
+use reference::matrix::REAL_SIZE;
 
 use crate::common::desk::{BothDesk, Call, Lent, Seen};
 use crate::common::Case;
+use crate::hub::{clear_record, full_record, Hub};
 use crate::steps::{any_request, desk_of};
 
-/// Serves sectors that each have their own area, from a new desk on.
-struct Hub<'a> {
-    both: BothDesk<'a>,
+/// A desk with the same job for all, at which one sector has so much left, and the others have
+/// something else.
+fn desk_with(sector: usize, job: Job, left: u16, others: u16) -> Desk {
+    let mut desk = desk_of(job, others);
+    desk.seats[sector].left = left;
+    desk
 }
 
-impl<'a> Hub<'a> {
-    fn new(test: &'static str, seed: u64, seen: &'a mut Seen) -> Self {
-        let both = BothDesk::new(Case::of_words(test, seed, 0), seen);
-        Hub { both }
-    }
-
-    fn load(&mut self, sector: u32, record: Vec<u8>) {
-        let call = Call::Load { sector, record };
-        let reply = self.both.call(&call, Lent::area(sector as usize));
-        assert_eq!((reply.number, reply.job), (0, Job::new(0, 0)));
-    }
-
-    /// The number, and the turns granted.
-    fn run(&mut self, sector: u32, request: u16) -> (u8, u32) {
-        let call = Call::Run { sector, request };
-        let reply = self.both.call(&call, Lent::area(sector as usize));
-        (reply.number, reply.count)
-    }
-
-    fn begin(&mut self) {
-        assert_eq!(self.both.call(&Call::Begin, Lent::area(0)).number, 0);
-    }
-
-    fn fetch(&mut self, sector: u32) -> u8 {
-        let call = Call::Fetch { sector };
-        self.both.call(&call, Lent::area(sector as usize)).number
-    }
-
-    fn left(&self) -> u16 {
-        self.both.desk().left
-    }
-
-    fn job(&self, sector: usize) -> Job {
-        self.both.desk().seats[sector].job
-    }
-}
-
-fn full_record(seed: u64) -> Vec<u8> {
-    let mut random = Random::new(seed);
-    let mut any = || Complex::new(random.part(), random.part());
-    let matrix = Matrix::from_fn(|_, _| any()).with_diagonal_at(0, 17);
-    write_matrix(&matrix).to_vec()
-}
-
-/// A matrix none of whose turns is made.
-fn clear_record() -> Vec<u8> {
-    let nothing = Matrix::from_fn(|_, _| Complex::ZERO);
-    write_matrix(&nothing.with_diagonal(|_| 16_384)).to_vec()
-}
-
-/// Every turn number with every rest of a round, on an area whose turns are all skipped: they are
+/// Every turn number with every rest of a count, on an area whose turns are all skipped: they are
 /// granted and paid for like any other.
 #[test]
 fn the_smallest_of_three_is_granted() {
@@ -80,7 +33,8 @@ fn the_smallest_of_three_is_granted() {
         for left in (0..=121).chain([1_000, u16::MAX]) {
             let request = any_request(&mut random);
             let run = Call::Run { sector: 5, request };
-            let desk = desk_of(Job::new(turn, 0), left);
+            let others = random.choose(&[0, 1, 15, 120, u16::MAX]);
+            let desk = desk_with(5, Job::new(turn, 0), left, others);
             let reply = both.call_handed(&desk, &run, Lent::area(0));
             let refused = request > 0 && left == 0 && turn < 120;
             let number = if refused { 13 } else { 0 };
@@ -91,45 +45,49 @@ fn the_smallest_of_three_is_granted() {
             both.require(made == 0, "a turn that is clear was made");
         }
     }
-    seen.print("Every turn number and every rest of a round");
+    seen.print("Every turn number and every rest of a count");
     seen.assert_numbers(&[13]);
 }
 
-/// With nothing left a Run is refused where it would have made a turn, and nowhere else.
+/// With nothing left a sector's Run is refused where it would have made a turn, and nowhere else,
+/// whatever the others have left.
 #[test]
-fn a_round_that_is_used_up() {
+fn a_count_that_is_used_up() {
     let mut seen = Seen::default();
     let case = Case::of_words("used up", 1142, 0);
     let mut both = BothDesk::new(case, &mut seen);
-    let mut run = |job, request, words| {
-        let call = Call::Run { sector: 2, request };
-        let lent = Lent {
-            words,
-            ..Lent::area(2)
+    for (sector, others) in (0..8).flat_map(|sector| [0, 15, u16::MAX].map(|n| (sector, n))) {
+        let mut run = |job, request, words| {
+            let call = Call::Run { sector, request };
+            let lent = Lent {
+                words,
+                ..Lent::area(2)
+            };
+            let desk = desk_with(sector as usize, job, 0, others);
+            let reply = both.call_handed(&desk, &call, lent);
+            (reply.number, reply.count, reply.job)
         };
-        let reply = both.call_handed(&desk_of(job, 0), &call, lent);
-        (reply.number, reply.count, reply.job)
-    };
-    let nothing = Job::new(0, 0);
-    for job in [(0, 0), (1, 0), (5, 5), (119, 119)].map(|(turn, made)| Job { turn, made }) {
-        assert_eq!(run(job, 0, 512), (0, 0, job), "a request of 0");
-        for request in [1, 2, 119, 120, 121, u16::MAX] {
-            assert_eq!(run(job, request, 512), (13, 0, nothing), "{job:?}");
-            assert_eq!(run(job, request, 511), (3, 0, nothing), "a short area");
+        let nothing = Job::new(0, 0);
+        for job in [(0, 0), (1, 0), (5, 5), (119, 119)].map(|(turn, made)| Job { turn, made }) {
+            assert_eq!(run(job, 0, 512), (0, 0, job), "a request of 0");
+            for request in [1, 2, 119, 120, 121, u16::MAX] {
+                assert_eq!(run(job, request, 512), (13, 0, nothing), "{job:?}");
+                assert_eq!(run(job, request, 511), (3, 0, nothing), "a short area");
+            }
         }
-    }
-    for finished in [0, 1, 120].map(|made| Job::new(120, made)) {
-        for request in [0, 1, 120, u16::MAX] {
-            assert_eq!(run(finished, request, 512), (0, 0, finished));
+        for finished in [0, 1, 120].map(|made| Job::new(120, made)) {
+            for request in [0, 1, 120, u16::MAX] {
+                assert_eq!(run(finished, request, 512), (0, 0, finished));
+            }
         }
+        let no_job = Job::new(5, 6);
+        assert_eq!(run(no_job, 1, 512), (5, 0, nothing), "5 comes before 13");
     }
-    let no_job = Job::new(5, 6);
-    assert_eq!(run(no_job, 1, 512), (5, 0, nothing), "5 comes before 13");
-    seen.print("A round that is used up");
+    seen.print("A count that is used up");
     seen.assert_numbers(&[3, 5, 13]);
 }
 
-/// Fifteen turns for each of eight sectors, eight rounds long.
+/// Fifteen turns for each of eight sectors, eight rounds long, as a new desk has it.
 #[test]
 fn eight_sectors_share_eight_rounds() {
     let mut seen = Seen::default();
@@ -138,70 +96,84 @@ fn eight_sectors_share_eight_rounds() {
     for round in 1..=8 {
         for sector in 0..8 {
             assert_eq!(hub.run(sector, 15), (0, 15));
-            assert_eq!(hub.job(sector as usize).turn, 15 * round);
+            assert_eq!(hub.seat(sector as usize).job.turn, 15 * round);
         }
-        assert_eq!(hub.left(), 0);
+        assert_eq!(hub.left(), [0; 8]);
         for sector in 0..8 {
             let due = if round < 8 { (13, 0) } else { (0, 0) };
             assert_eq!(hub.run(sector, 1), due);
             assert_eq!(hub.fetch(sector), if round < 8 { 6 } else { 0 });
         }
         hub.begin();
-        assert_eq!(hub.left(), 120);
+        assert_eq!(hub.left(), [15; 8]);
     }
     seen.print("Eight sectors, eight rounds");
     assert_eq!((seen.granted, seen.worked), (960, 8));
 }
 
-/// The first to ask gets what it asks for, and the last what is left.
+/// A sector that asks first, and for all, gets its share. The last to ask has its own.
 #[test]
-fn one_sector_can_use_up_a_round() {
+fn a_busy_sector_eats_nothing_of_the_others() {
     let mut seen = Seen::default();
     let mut hub = Hub::new("a busy sector", 1144, &mut seen);
-    (0..2).for_each(|sector| hub.load(sector, full_record(1144)));
-    assert_eq!(hub.run(0, 119), (0, 119));
+    (0..3).for_each(|sector| hub.load(sector, full_record(1144)));
+    assert_eq!(hub.set_shares([119, 1, 0, 0, 0, 0, 0, 0]), 0);
+    hub.begin();
+    assert_eq!(hub.run(0, u16::MAX), (0, 119));
+    assert_eq!((hub.run(0, 1), hub.run(2, 1)), ((13, 0), (13, 0)));
     assert_eq!(hub.run(1, u16::MAX), (0, 1));
-    assert_eq!((hub.run(0, 1), hub.run(1, 1)), ((13, 0), (13, 0)));
+    assert_eq!(hub.set_shares([1, 60, 59, 0, 0, 0, 0, 0]), 0);
+    assert_eq!(hub.run(1, 1), (13, 0));
     hub.begin();
     assert_eq!(hub.run(0, u16::MAX), (0, 1));
-    assert_eq!(hub.run(1, u16::MAX), (0, 119));
-    assert_eq!((hub.job(0).turn, hub.job(1).turn), (120, 120));
-    assert_eq!((hub.fetch(0), hub.fetch(1)), (0, 0));
+    assert_eq!(hub.run(1, u16::MAX), (0, 60));
+    hub.begin();
+    assert_eq!((hub.run(0, 1), hub.seat(0).left), ((0, 0), 1));
+    assert_eq!((hub.run(1, 60), hub.seat(1).left), ((0, 59), 1));
+    assert_eq!((hub.run(2, 60), hub.seat(2).left), ((0, 59), 0));
+    assert_eq!([0, 1, 2].map(|sector| hub.fetch(sector)), [0, 0, 6]);
     seen.print("A busy sector");
 }
 
-/// A Load neither takes from the round nor refills it, and that of an unfinished job begins anew.
+/// A Load neither takes from what its sector has left nor refills it, and that of an unfinished job
+/// begins anew.
 #[test]
-fn a_load_leaves_the_round_as_it_is() {
+fn a_load_leaves_the_count_as_it_is() {
     let mut seen = Seen::default();
     let mut hub = Hub::new("loads", 1145, &mut seen);
+    assert_eq!(hub.set_shares([0, 0, 0, 120, 0, 0, 0, 0]), 0);
+    hub.begin();
     for (left, request) in [(120, 0), (90, 30), (81, 9), (0, 81)] {
         hub.run(3, request);
-        assert_eq!(hub.left(), left);
+        assert_eq!(hub.seat(3).left, left);
         for _ in 0..3 {
             hub.load(3, full_record(1145 + u64::from(left)));
-            assert_eq!((hub.left(), hub.job(3)), (left, Job::new(0, 0)));
+            assert_eq!(hub.left(), [0, 0, 0, left, 0, 0, 0, 0]);
         }
     }
     assert_eq!(hub.run(3, 120), (13, 0));
     hub.begin();
     assert_eq!(hub.run(3, 120), (0, 120));
-    assert_eq!((hub.fetch(3), hub.left()), (0, 0));
+    assert_eq!((hub.fetch(3), hub.seat(3).left), (0, 0));
     seen.print("Loads");
 }
 
-/// A matrix that costs nothing uses up the round all the same.
+/// A matrix that costs nothing uses up a share all the same.
 #[test]
 fn turns_that_are_skipped_are_paid_for() {
     let mut seen = Seen::default();
     let mut hub = Hub::new("skipped turns", 1146, &mut seen);
     hub.load(0, clear_record());
-    hub.load(1, full_record(1146));
-    assert_eq!(hub.run(0, 100), (0, 100));
-    assert_eq!((hub.left(), hub.job(0)), (20, Job::new(100, 0)));
-    assert_eq!(hub.run(0, 100), (0, 20));
-    assert_eq!((hub.left(), hub.job(0)), (0, Job::new(120, 0)));
-    assert_eq!(hub.run(1, 1), (13, 0));
-    assert_eq!(hub.fetch(0), 0);
+    assert_eq!(hub.set_shares([100, 0, 0, 0, 0, 0, 0, 0]), 0);
+    hub.begin();
+    assert_eq!((hub.run(0, 90), hub.seat(0).left), ((0, 90), 10));
+    assert_eq!((hub.run(0, 90), hub.seat(0).left), ((0, 10), 0));
+    assert_eq!(
+        (hub.run(0, 1), hub.seat(0).job),
+        ((13, 0), Job::new(100, 0))
+    );
+    hub.begin();
+    assert_eq!((hub.run(0, 90), hub.seat(0).left), ((0, 20), 80));
+    assert_eq!((hub.fetch(0), hub.seat(0).job), (0, Job::new(120, 0)));
     seen.print("Skipped turns");
 }

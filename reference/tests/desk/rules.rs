@@ -2,32 +2,52 @@
 //! another answer, the comparison tells the two apart.
 
 use reference::area::AREA_WORDS;
-use reference::desk::{Desk, DeskReply, ROUND_TURNS};
-use reference::job::Job;
+use reference::desk::{Desk, DeskReply, Seat, SECTORS};
 
 use crate::common::desk::Call;
 use crate::common::noticed::Noticed;
+use crate::shares::{total, Shares};
 use crate::steps::Step;
 
 #[derive(Debug, Clone, Copy, PartialEq, Eq)]
 enum Rule {
-    /// The round pays what was requested.
+    /// What was requested is paid.
     RequestPaid,
-    /// The round pays the turns truly made, and none that was skipped.
+    /// The turns truly made are paid, and none that was skipped.
     MadePaid,
-    /// A Load takes a turn from the round.
+    /// The count of the next sector pays.
+    NextPays,
+    /// Every count pays, as if the round had one for all.
+    AllPay,
+    /// A Load takes a turn.
     LoadPays,
-    /// A Load begins a round.
+    /// A Load refills the count of its sector.
     LoadRefills,
-    /// What was left is added to a round that begins.
+    /// A share is added to what was left when a round begins.
     LeftKept,
+    /// Shares that are set refill the counts at once.
+    SharesAtOnce,
+    /// Of shares that are refused the first seven are kept.
+    SevenKept,
+    /// Shares of 121 in total are accepted.
+    OneMore,
+    /// The total of shares is kept in 16 bits.
+    NarrowTotal,
+    /// Each share may be 120 by itself.
+    EachByItself,
+    /// Shares of less than 120 in total are refused.
+    UnderRefused,
+    /// A share of 0 is refused.
+    ZeroRefused,
     /// A refused Run answers the sector's job, as the engine's own does.
     JobGivenBack,
     /// 12 comes after 3.
     SectorAfterArea,
     /// 13 comes before 5.
-    RoundBeforeJob,
-    /// 13 for every request above what the round has left.
+    CountBeforeJob,
+    /// 13 only when no sector has a turn left.
+    AllUsedUp,
+    /// 13 for every request above what the sector has left.
     AllOrNothing,
     /// 13 for a request of 0, too.
     NothingRefused,
@@ -40,15 +60,25 @@ enum Rule {
 }
 
 impl Rule {
-    const ALL: [Rule; 13] = [
+    const ALL: [Rule; 23] = [
         Rule::RequestPaid,
         Rule::MadePaid,
+        Rule::NextPays,
+        Rule::AllPay,
         Rule::LoadPays,
         Rule::LoadRefills,
         Rule::LeftKept,
+        Rule::SharesAtOnce,
+        Rule::SevenKept,
+        Rule::OneMore,
+        Rule::NarrowTotal,
+        Rule::EachByItself,
+        Rule::UnderRefused,
+        Rule::ZeroRefused,
         Rule::JobGivenBack,
         Rule::SectorAfterArea,
-        Rule::RoundBeforeJob,
+        Rule::CountBeforeJob,
+        Rule::AllUsedUp,
         Rule::AllOrNothing,
         Rule::NothingRefused,
         Rule::FinishedRefused,
@@ -67,42 +97,87 @@ impl Rule {
             };
         }
         let mut reply = *stated;
-        if number == 0 {
-            reply.desk.left = self.left(desk, &step.call, stated);
-        } else if self == Rule::JobGivenBack && matches!(step.call, Call::Run { .. }) {
-            reply.job = job(desk, &step.call).unwrap_or(stated.job);
+        reply.desk = self.desk(desk, &step.call, stated);
+        if self == Rule::JobGivenBack && number != 0 && matches!(step.call, Call::Run { .. }) {
+            reply.job = seat(desk, &step.call).map_or(stated.job, |seat| seat.job);
         }
         reply
     }
 
-    /// What the round has left after an accepted call.
-    fn left(self, desk: &Desk, call: &Call, stated: &DeskReply) -> u16 {
-        match (self, call) {
-            (Rule::RequestPaid, Call::Run { request, .. }) => desk.left.saturating_sub(*request),
-            (Rule::MadePaid, Call::Run { .. }) => {
-                let before = job(desk, call).map_or(0, |job| job.made);
-                desk.left - (stated.job.made - before) as u16
+    /// The desk that is answered, where the number is that of the specification.
+    fn desk(self, desk: &Desk, call: &Call, stated: &DeskReply) -> Desk {
+        let mut answered = stated.desk;
+        let seats = answered.seats.iter_mut();
+        match (call, stated.number) {
+            (Call::Begin, _) if self == Rule::LeftKept => {
+                let seats = seats.zip(&desk.seats);
+                seats.for_each(|(seat, before)| seat.left = seat.left.saturating_add(before.left));
             }
-            (Rule::LoadPays, Call::Load { .. }) => desk.left.saturating_sub(1),
-            (Rule::LoadRefills, Call::Load { .. }) => ROUND_TURNS,
-            (Rule::LeftKept, Call::Begin) => desk.left.saturating_add(ROUND_TURNS),
-            _ => stated.desk.left,
+            (Call::SetShares { .. }, 0) if self == Rule::SharesAtOnce => {
+                seats.for_each(|seat| seat.left = seat.share);
+            }
+            (Call::SetShares { shares }, 14) if self == Rule::SevenKept => {
+                let seven = seats.zip(shares).take(7);
+                seven.for_each(|(seat, share)| seat.share = *share);
+            }
+            (Call::Load { sector, .. }, 0) => {
+                let seat = &mut answered.seats[*sector as usize];
+                seat.left = self.left_by_load(seat);
+            }
+            (Call::Run { sector, request }, 0) => {
+                let sector = *sector as usize;
+                let made = stated.job.made - desk.seats[sector].job.made;
+                let turns = [*request, stated.count as u16, made as u16];
+                for (k, seat) in seats.enumerate() {
+                    let place = (k + SECTORS - sector) % SECTORS;
+                    seat.left = desk.seats[k].left.saturating_sub(self.pays(place, turns));
+                }
+            }
+            _ => {}
+        }
+        answered
+    }
+
+    /// What a sector has left after its Load.
+    fn left_by_load(self, seat: &Seat) -> u16 {
+        match self {
+            Rule::LoadPays => seat.left.saturating_sub(1),
+            Rule::LoadRefills => seat.share,
+            _ => seat.left,
+        }
+    }
+
+    /// What the sector so many places after the one that runs pays for turns that were requested,
+    /// granted and truly made.
+    fn pays(self, place: usize, [requested, granted, made]: [u16; 3]) -> u16 {
+        match (self, place) {
+            (Rule::RequestPaid, 0) => requested,
+            (Rule::MadePaid, 0) => made,
+            (Rule::NextPays, 1) | (Rule::AllPay, _) => granted,
+            (Rule::NextPays, _) => 0,
+            (_, 0) => granted,
+            _ => 0,
         }
     }
 
     fn number(self, desk: &Desk, step: &Step, stated: u8) -> u8 {
-        let unfinished = job(desk, &step.call).is_some_and(|job| job.turn < 120);
-        let short = step.lent.words < AREA_WORDS;
+        let seat = seat(desk, &step.call);
+        let unfinished = seat.is_some_and(|seat| seat.job.turn < 120);
         match (self, &step.call) {
+            (_, Call::SetShares { shares }) if self.accepts(shares) => 0,
+            (_, Call::SetShares { .. }) => 14,
             (Rule::SectorAfterArea, Call::Run { .. } | Call::Fetch { .. })
-                if stated == 12 && short =>
+                if stated == 12 && step.lent.words < AREA_WORDS =>
             {
                 3
             }
             (Rule::LowByte, Call::Heard { sector }) if *sector as u8 <= 7 => 0,
             (Rule::UnfinishedKept, Call::Load { .. }) if stated == 0 && unfinished => 6,
+            (Rule::AllUsedUp, _) if stated == 13 && desk.seats.iter().any(|seat| seat.left > 0) => {
+                0
+            }
             (_, Call::Run { request, .. })
-                if self.gives_13(desk.left, unfinished, *request, stated) =>
+                if seat.is_some_and(|seat| self.gives_13(seat, *request, stated)) =>
             {
                 13
             }
@@ -111,22 +186,34 @@ impl Rule {
     }
 
     /// Whether a Run is refused with 13 by this rule and not by that of the specification.
-    fn gives_13(self, left: u16, unfinished: bool, request: u16, stated: u8) -> bool {
-        let used_up = left == 0;
+    fn gives_13(self, seat: &Seat, request: u16, stated: u8) -> bool {
+        let (unfinished, used_up) = (seat.job.turn < 120, seat.left == 0);
         match self {
-            Rule::RoundBeforeJob => stated == 5 && request > 0 && unfinished && used_up,
-            Rule::AllOrNothing => stated == 0 && request > left && unfinished,
+            Rule::CountBeforeJob => stated == 5 && request > 0 && unfinished && used_up,
+            Rule::AllOrNothing => stated == 0 && request > seat.left && unfinished,
             Rule::NothingRefused => stated == 0 && request == 0 && unfinished && used_up,
             Rule::FinishedRefused => stated == 0 && request > 0 && !unfinished && used_up,
             _ => false,
         }
     }
+
+    /// Whether shares are accepted by this rule.
+    fn accepts(self, shares: &Shares) -> bool {
+        let total = total(shares);
+        match self {
+            Rule::OneMore => total <= 121,
+            Rule::NarrowTotal => total as u16 <= 120,
+            Rule::EachByItself => shares.iter().all(|share| *share <= 120),
+            Rule::UnderRefused => total == 120,
+            Rule::ZeroRefused => total <= 120 && !shares.contains(&0),
+            _ => total <= 120,
+        }
+    }
 }
 
-/// The job of the sector that a call is for.
-fn job(desk: &Desk, call: &Call) -> Option<Job> {
-    let seat = desk.seats.get(call.sector()? as usize);
-    seat.map(|seat| seat.job)
+/// The seat of the sector that a call is for.
+fn seat<'a>(desk: &'a Desk, call: &Call) -> Option<&'a Seat> {
+    desk.seats.get(call.sector()? as usize)
 }
 
 /// In how many calls each other rule would have given another answer.

@@ -14,10 +14,11 @@ fn desk() -> Desk {
     let seat = |k: usize| Seat {
         job: Job::new(10 * k as u32 + 9, k as u32),
         heard: 1 << k,
+        share: 22 - 2 * k as u16,
+        left: 77 + k as u16,
     };
     Desk {
         seats: std::array::from_fn(seat),
-        left: 77,
     }
 }
 
@@ -56,9 +57,13 @@ fn each_sector_has_its_own_seat() {
             seats
         };
         assert_eq!([seats(&load), seats(&run)], [desk.seats; 2]);
-        assert_eq!((run.job.turn, run.desk.left), (10 * sector as u32 + 10, 76));
-        let loaded = load.desk.seats[sector].job;
-        assert_eq!((loaded, load.desk.left), (Job::new(0, 0), 77));
+        let (seat, left) = (run.desk.seats[sector], 77 + sector as u16);
+        assert_eq!(
+            (seat.job.turn, seat.left),
+            (10 * sector as u32 + 10, left - 1)
+        );
+        let seat = load.desk.seats[sector];
+        assert_eq!((seat.job, seat.left), (Job::new(0, 0), left));
         desk.seats[sector].job = Job::new(120, 7);
         let fetch = call_all(sector as u32, &desk, &mut seen)[2];
         assert_eq!((fetch.number, fetch.desk), (0, desk));

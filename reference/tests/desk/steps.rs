@@ -7,6 +7,7 @@ use reference::random::Random;
 use reference::records::write_matrix;
 
 use crate::common::desk::{BothDesk, Call, Lent};
+use crate::shares::{any_shares, dealt, giving, total};
 
 /// Sectors that no hub has. The low bits of some are those of one that it has.
 pub const BEYOND: [u32; 9] = [
@@ -23,15 +24,16 @@ pub const BEYOND: [u32; 9] = [
 
 const REQUESTS: [u16; 12] = [0, 1, 2, 7, 15, 15, 30, 60, 119, 120, 121, u16::MAX];
 
-/// A desk that has the same job at every seat.
+/// A desk that has the same job at every seat, and as much left.
 pub fn desk_of(job: Job, left: u16) -> Desk {
     let seat = |k| Seat {
         job,
         heard: 31 * k as u8 + 5,
+        share: 9_000 * k as u16 + 7,
+        left,
     };
     Desk {
         seats: std::array::from_fn(seat),
-        left,
     }
 }
 
@@ -71,7 +73,7 @@ impl Step {
 pub enum Areas {
     /// That of its sector.
     Own,
-    /// Any of the eight.
+    /// Any of the eight, and every other time that of its sector.
     Any,
 }
 
@@ -84,17 +86,52 @@ pub struct Steps {
 }
 
 impl Steps {
+    /// Steps of all sectors, each with its own area.
+    pub const OF_ALL: Steps = Steps {
+        areas: Areas::Own,
+        served: 8,
+    };
+
+    /// The steps of a history. Three in four begin a round with shares for those who are served: a
+    /// share of 15 finishes few jobs in so few calls.
+    pub fn history(self, count: usize, random: &mut Random) -> Vec<Step> {
+        let mut steps: Vec<Step> = (0..count).map(|_| self.draw(random)).collect();
+        if !random.one_in(4) {
+            let shares = dealt(120, self.served as usize, random);
+            let opening = [Call::SetShares { shares }, Call::Begin];
+            for (step, call) in steps.iter_mut().zip(opening) {
+                (step.call, step.no_job) = (call, None);
+            }
+        }
+        steps
+    }
+
     pub fn draw(self, random: &mut Random) -> Step {
         let sector = any_sector(self.served, random);
-        let call = any_call(sector, random);
+        let call = any_call(sector, self.served, random);
         let area = match self.areas {
             Areas::Own if sector < 8 => sector as usize,
+            Areas::Any if sector < 8 && random.one_in(2) => sector as usize,
             _ => random.below(8),
         };
         let lent = any_lent(area, random);
         let tested = matches!(call, Call::Run { .. } | Call::Fetch { .. });
         let no_job = (tested && sector < 8 && random.one_in(16)).then(|| no_job(random));
         Step { call, lent, no_job }
+    }
+
+    /// A step of the round that has begun, which leaves a sector its share.
+    pub fn draw_within(self, sector: usize, share: u16, random: &mut Random) -> Step {
+        let mut step = self.draw(random);
+        while matches!(step.call, Call::Begin) {
+            step = self.draw(random);
+        }
+        if let Call::SetShares { shares } = &mut step.call {
+            if total(shares) <= 120 {
+                *shares = giving(sector, share, random);
+            }
+        }
+        step
     }
 }
 
@@ -106,12 +143,15 @@ fn any_sector(served: u32, random: &mut Random) -> u32 {
     }
 }
 
-pub fn any_call(sector: u32, random: &mut Random) -> Call {
-    match random.below(20) {
-        0..=1 => Call::Begin,
-        2..=3 => Call::Heard { sector },
-        4..=6 => Call::Fetch { sector },
-        7..=9 => Call::Load {
+fn any_call(sector: u32, served: u32, random: &mut Random) -> Call {
+    match random.below(24) {
+        0..=3 => Call::Begin,
+        4 => Call::SetShares {
+            shares: any_shares(served as usize, random),
+        },
+        5..=6 => Call::Heard { sector },
+        7..=9 => Call::Fetch { sector },
+        10..=13 => Call::Load {
             sector,
             record: any_record(random),
         },
@@ -131,7 +171,7 @@ pub fn any_request(random: &mut Random) -> u16 {
 }
 
 /// Lengths around those that are just enough. Most are enough.
-pub fn any_lent(area: usize, random: &mut Random) -> Lent {
+fn any_lent(area: usize, random: &mut Random) -> Lent {
     let words: &[usize] = if random.one_in(12) {
         &[0, 1, 511]
     } else {

@@ -1,6 +1,7 @@
-//! A hub serves its eight sectors by one desk: loads each from a record, requests turns for all of
-//! them in round after round until their jobs are finished, and compares each result, byte for byte,
-//! with what Whole makes of the same record.
+//! A hub serves its eight sectors by one desk: gives each a share of a round, loads each from a
+//! record, requests turns for all of them in round after round until their jobs are finished, and
+//! compares each result, byte for byte, with what Whole makes of the same record. One sector requests
+//! all that it can and more, and the others are served all the same.
 //!
 //! ```text
 //! cargo run -p instalments --bin desk [RECORD...]
@@ -16,12 +17,16 @@ use std::io::{self, ErrorKind, Read, Write};
 use std::path::{Path, PathBuf};
 use std::process::ExitCode;
 
-use hubqr::{Desk, Job, Progress, Refusal};
-use hubqr::{AREA_WORDS, MATRIX_RECORD_BYTES, RESULT_RECORD_BYTES, SECTORS};
+use hubqr::{Desk, Refusal};
+use hubqr::{AREA_WORDS, MATRIX_RECORD_BYTES, RESULT_RECORD_BYTES, ROUND_TURNS, SECTORS, TURNS};
 
-/// The turns that are requested for a sector in a round. The round's 120 are no multiple of them, so
-/// that some get fewer.
-const REQUEST: u16 = 50;
+/// Sectors 0 and 5 are busy and get more than the others. What the others have at a new desk would be
+/// too many beside that.
+const TOO_MANY: [u16; SECTORS] = [35, 15, 15, 15, 15, 25, 15, 15];
+const SHARES: [u16; SECTORS] = [35, 10, 10, 10, 10, 25, 10, 10];
+
+/// The sector that requests all 120 turns of each round, twice. The others request their share.
+const GREEDY: usize = 5;
 
 const RECORDS: &str = "examples/records";
 
@@ -42,6 +47,8 @@ struct Sector {
     path: PathBuf,
     record: Vec<u8>,
     area: [i32; AREA_WORDS],
+    /// Those in which it was served.
+    rounds: u32,
 }
 
 struct Hub {
@@ -86,26 +93,39 @@ fn read_sector(path: PathBuf) -> Result<Sector, String> {
         path,
         record,
         area: [0; AREA_WORDS],
+        rounds: 0,
     })
 }
 
-/// Serves all sectors, and answers whether all results are right. Rounds go on until one grants
-/// nothing, since all jobs are finished then. The first needs no begin: a new desk stands at the
-/// start of one.
+/// Serves all sectors until their jobs are finished, and answers whether all results are right. The
+/// first round is begun as well: the one that a new desk stands at the start of has the first shares,
+/// 15 for each sector.
 fn serve(mut hub: Hub, output: &mut impl Write) -> io::Result<bool> {
+    set_shares(&mut hub, TOO_MANY, output)?;
+    set_shares(&mut hub, SHARES, output)?;
     load_sectors(&mut hub, output)?;
-    let used_up = Refusal::RoundUsedUp;
-    writeln!(output, "\nnumber {}: {used_up}", used_up.number())?;
-    writeln!(
-        output,
-        "round  sector  requested  granted  turn  made  left  refused"
-    )?;
+    print_header(output)?;
     let mut round = 1;
-    while serve_round(&mut hub, round, output)? > 0 && hub.desk.begin().is_ok() {
+    while !hub.desk.jobs.iter().all(|job| job.is_finished()) && hub.desk.begin().is_ok() {
+        serve_round(&mut hub, round, output)?;
         round += 1;
     }
     writeln!(output)?;
     print_results(&mut hub, output)
+}
+
+/// Sets the shares, which count from the next round on. If they are refused, the desk keeps those
+/// that it has.
+fn set_shares(hub: &mut Hub, shares: [u16; SECTORS], output: &mut impl Write) -> io::Result<()> {
+    write!(
+        output,
+        "shares {}: ",
+        shares.map(|s| s.to_string()).join(" ")
+    )?;
+    match hub.desk.set_shares(shares) {
+        Ok(()) => writeln!(output, "set"),
+        Err(refusal) => print_refusal(refusal, output),
+    }
 }
 
 /// Loads the sectors that have a record. A refused Load leaves its sector as it was, and the others
@@ -127,38 +147,43 @@ fn print_refusal(refusal: Refusal, output: &mut impl Write) -> io::Result<()> {
     writeln!(output, "refused with number {number}: {refusal}")
 }
 
-/// Requests turns for each sector that is not finished, one after the other. Answers how many were
-/// granted to all of them. Every round starts at sector 0, so that sector 7 of the samples waits for
-/// five rounds. To serve all alike, a host requests 15 for each, or starts each round at another
-/// sector.
-fn serve_round(hub: &mut Hub, round: u32, output: &mut impl Write) -> io::Result<u32> {
-    let mut granted = 0;
-    for (k, sector) in hub.sectors.iter_mut().enumerate() {
-        if hub.desk.jobs[k].is_finished() {
-            continue;
-        }
-        let ran = hub.desk.run(k as u32, REQUEST, &mut sector.area);
-        write!(output, "{round:5}  {k:6}  ")?;
-        print_run(ran, hub.desk.jobs[k], hub.desk.left, output)?;
-        granted += ran.map_or(0, |progress| progress.count);
-    }
-    Ok(granted)
+fn print_header(output: &mut impl Write) -> io::Result<()> {
+    let used_up = Refusal::CountUsedUp;
+    writeln!(output, "\nnumber {}: {used_up}", used_up.number())?;
+    writeln!(
+        output,
+        "turns granted to sectors 0 to 7, and what sector {GREEDY} is refused with when it requests more"
+    )?;
+    writeln!(
+        output,
+        "round    0    1    2    3    4    5    6    7  refused"
+    )
 }
 
-/// Prints what a Run was granted, and what the desk has then: the sector's job, and what the round
-/// has left.
-fn print_run(
-    ran: Result<Progress, Refusal>,
-    job: Job,
-    left: u16,
-    output: &mut impl Write,
-) -> io::Result<()> {
-    let (count, Job { turn, made }) = (ran.map_or(0, |progress| progress.count), job);
-    write!(
-        output,
-        "{REQUEST:9}  {count:7}  {turn:4}  {made:4}  {left:4}"
-    )?;
-    if let Err(refusal) = ran {
+/// Requests turns for each sector that is not finished, one after the other, and prints what is
+/// granted to each. The greedy one gets its share, as the others do, and is refused when it requests
+/// more: none of that is taken from those that come after it.
+fn serve_round(hub: &mut Hub, round: u32, output: &mut impl Write) -> io::Result<()> {
+    let mut refused = None;
+    write!(output, "{round:5}")?;
+    for k in 0..SECTORS {
+        if hub.desk.jobs[k].is_finished() {
+            write!(output, "  {:>3}", "-")?;
+            continue;
+        }
+        let sector = &mut hub.sectors[k];
+        let request = match k {
+            GREEDY => ROUND_TURNS,
+            _ => hub.desk.shares[k],
+        };
+        let ran = hub.desk.run(k as u32, request, &mut sector.area);
+        write!(output, "  {:3}", ran.map_or(0, |progress| progress.count))?;
+        sector.rounds += 1;
+        if k == GREEDY {
+            refused = hub.desk.run(k as u32, request, &mut sector.area).err();
+        }
+    }
+    if let Some(refusal) = refused {
         write!(output, "  {:7}", refusal.number())?;
     }
     writeln!(output)
@@ -174,19 +199,27 @@ fn print_results(hub: &mut Hub, output: &mut impl Write) -> io::Result<bool> {
         match hub.desk.heard(k as u32) {
             Err(refusal) => print_refusal(refusal, output)?,
             Ok(0) => writeln!(output, "heard byte 00, never loaded")?,
-            Ok(heard) => {
-                let same = fetched_as_whole(hub, k).unwrap_or(false);
-                let is = if same { "is" } else { "is not" };
-                writeln!(
-                    output,
-                    "heard byte {heard:02X}, the result {is} the one that Whole makes"
-                )?;
-                right = right && same;
-            }
+            Ok(_) => right = print_result(hub, k, output)? && right,
         }
     }
     output.flush()?;
     Ok(right)
+}
+
+/// Prints what became of a sector that was loaded. Answers whether its result is right, and took no
+/// more rounds than 120 divided by its share, rounded up.
+fn print_result(hub: &mut Hub, k: usize, output: &mut impl Write) -> io::Result<bool> {
+    let same = fetched_as_whole(hub, k).unwrap_or(false);
+    let (heard, made, share) = (hub.desk.heard[k], hub.desk.jobs[k].made, hub.desk.shares[k]);
+    let (rounds, most) = (hub.sectors[k].rounds, TURNS.div_ceil(share.into()));
+    write!(output, "heard byte {heard:02X}, {made} turns made, ")?;
+    write!(
+        output,
+        "share {share}, finished in {rounds} rounds of at most {most}, "
+    )?;
+    let is = if same { "is" } else { "is not" };
+    writeln!(output, "the result {is} the one that Whole makes")?;
+    Ok(same && rounds <= most)
 }
 
 /// Whether the result that is fetched for a sector is the one that Whole makes of its record.

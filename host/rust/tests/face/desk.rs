@@ -1,9 +1,10 @@
-//! The desk: each sector beside the engine's own calls on another area, what a round grants, and
+//! The desk: each sector beside the engine's own calls on another area, what its share grants it, and
 //! refusals.
 use crate::job::element;
 use crate::lent::{at, equal_parts, matrix, mixed_matrix, Lent, MIXED_HEARD};
 use hubqr::Refusal::{self, *};
-use hubqr::{ffi, Desk, Job, AREA_WORDS, KIND_RESULT, RESULT_RECORD_BYTES, ROUND_TURNS, SECTORS};
+use hubqr::{ffi, Desk, Job, AREA_WORDS, KIND_RESULT, RESULT_RECORD_BYTES};
+use hubqr::{FIRST_SHARE, ROUND_TURNS, SECTORS};
 use std::mem::{align_of, offset_of, size_of};
 
 /// Numbers of no sector. Cut to a byte, to 16 bits or to its last three bits, each would be one.
@@ -19,6 +20,13 @@ const NO_SECTORS: [u32; 10] = [
     1 << 31,
     u32::MAX,
 ];
+
+/// Shares of which all but one are 0.
+fn only(sector: usize, share: u16) -> [u16; SECTORS] {
+    let mut shares = [0; SECTORS];
+    shares[sector] = share;
+    shares
+}
 
 /// A desk, and for each sector what it lends and the same of a sector that is worked alone.
 struct Hub {
@@ -48,14 +56,14 @@ impl Hub {
         assert_eq!(self.desk.heard(sector as u32), Ok(alone.heard));
     }
 
-    /// A Run that is granted so many turns, which the round pays.
+    /// A Run that is granted so many turns, which the sector pays of what it has left.
     fn run(&mut self, sector: usize, request: u16, granted: u16) {
         let mut due = self.desk.clone();
         let job = due.jobs[sector];
         let alone = hubqr::run(job, granted, &mut self.alone[sector].area).unwrap();
         assert_eq!(alone.count, granted.into());
         due.jobs[sector] = alone.job;
-        due.left -= granted;
+        due.left[sector] -= granted;
         let area = &mut self.lent[sector].area;
         let progress = self.desk.run(sector as u32, request, area);
         assert_eq!((progress, &self.desk), (Ok(alone), &due));
@@ -73,10 +81,25 @@ impl Hub {
         assert_eq!(lent, whole);
     }
 
+    /// A Run that is refused, since the sector has nothing left.
+    fn used_up(&self, sector: usize, request: u16) {
+        let run = |d: &mut Desk, l: &mut Lent| d.run(sector as u32, request, &mut l.area);
+        refused(&self.desk, run, CountUsedUp);
+    }
+
     fn begin(&mut self) {
-        let left = ROUND_TURNS;
+        let left = self.desk.shares;
         let due = Desk { left, ..self.desk };
         assert_eq!((self.desk.begin(), &self.desk), (Ok(()), &due));
+    }
+
+    fn set_shares(&mut self, shares: [u16; SECTORS]) {
+        let due = Desk {
+            shares,
+            ..self.desk
+        };
+        let set = self.desk.set_shares(shares);
+        assert_eq!((set, &self.desk), (Ok(()), &due));
     }
 }
 
@@ -94,14 +117,28 @@ fn busy() -> Desk {
     Desk {
         jobs: std::array::from_fn(|k| at(10 * k as u32, k as u32)),
         heard: std::array::from_fn(|k| 0xf0 + k as u8),
-        left: 9,
+        shares: std::array::from_fn(|k| 20 - 2 * k as u16),
+        left: std::array::from_fn(|k| 9 - k as u16),
     }
 }
 
-/// The busy desk with another job for a sector, and so much left.
+/// The busy desk with another job for a sector, which has so much left.
 fn placed(sector: usize, job: Job, left: u16) -> Desk {
-    let mut desk = Desk { left, ..busy() };
-    desk.jobs[sector] = job;
+    let mut desk = busy();
+    (desk.jobs[sector], desk.left[sector]) = (job, left);
+    desk
+}
+
+/// A desk that no calls lead to: one job is unfinished, and the shares are far above 120.
+fn made_up() -> Desk {
+    let mut desk = Desk {
+        jobs: [at(u32::MAX, u32::MAX); SECTORS],
+        heard: [0xc3; SECTORS],
+        shares: [u16::MAX; SECTORS],
+        left: [u16::MAX; SECTORS],
+    };
+    (desk.jobs[2], desk.jobs[6]) = (at(5, 6), at(118, 1));
+    desk.shares[5] = 0;
     desk
 }
 
@@ -118,29 +155,33 @@ fn refused<T>(
 
 #[test]
 fn structs_of_the_desk_have_their_layout_in_c() {
-    assert_eq!((size_of::<Desk>(), align_of::<Desk>()), (76, 4));
+    assert_eq!((size_of::<Desk>(), align_of::<Desk>()), (104, 4));
     assert_eq!(offset_of!(Desk, jobs), 0);
     assert_eq!(offset_of!(Desk, heard), 64);
-    assert_eq!(offset_of!(Desk, left), 72);
-    assert_eq!(size_of::<ffi::DeskReply>(), 80);
+    assert_eq!(offset_of!(Desk, shares), 72);
+    assert_eq!(offset_of!(Desk, left), 88);
+    assert_eq!(size_of::<ffi::Shares>(), 16);
+    assert_eq!(align_of::<ffi::Shares>(), 2);
+    assert_eq!(offset_of!(ffi::Shares, shares), 0);
+    assert_eq!(size_of::<ffi::DeskReply>(), 108);
     assert_eq!(offset_of!(ffi::DeskReply, desk), 0);
-    assert_eq!(offset_of!(ffi::DeskReply, number), 76);
-    assert_eq!(size_of::<ffi::DeskLoadReply>(), 88);
+    assert_eq!(offset_of!(ffi::DeskReply, number), 104);
+    assert_eq!(size_of::<ffi::DeskLoadReply>(), 116);
     assert_eq!(offset_of!(ffi::DeskLoadReply, desk), 0);
-    assert_eq!(offset_of!(ffi::DeskLoadReply, number), 76);
-    assert_eq!(offset_of!(ffi::DeskLoadReply, heard), 77);
-    assert_eq!(offset_of!(ffi::DeskLoadReply, job), 80);
-    assert_eq!(size_of::<ffi::DeskRunReply>(), 100);
+    assert_eq!(offset_of!(ffi::DeskLoadReply, number), 104);
+    assert_eq!(offset_of!(ffi::DeskLoadReply, heard), 105);
+    assert_eq!(offset_of!(ffi::DeskLoadReply, job), 108);
+    assert_eq!(size_of::<ffi::DeskRunReply>(), 128);
     assert_eq!(offset_of!(ffi::DeskRunReply, desk), 0);
-    assert_eq!(offset_of!(ffi::DeskRunReply, number), 76);
-    assert_eq!(offset_of!(ffi::DeskRunReply, job), 80);
-    assert_eq!(offset_of!(ffi::DeskRunReply, count), 88);
-    assert_eq!(offset_of!(ffi::DeskRunReply, clamps_r), 92);
-    assert_eq!(offset_of!(ffi::DeskRunReply, clamps_q), 96);
-    assert_eq!(size_of::<ffi::DeskHeardReply>(), 80);
+    assert_eq!(offset_of!(ffi::DeskRunReply, number), 104);
+    assert_eq!(offset_of!(ffi::DeskRunReply, job), 108);
+    assert_eq!(offset_of!(ffi::DeskRunReply, count), 116);
+    assert_eq!(offset_of!(ffi::DeskRunReply, clamps_r), 120);
+    assert_eq!(offset_of!(ffi::DeskRunReply, clamps_q), 124);
+    assert_eq!(size_of::<ffi::DeskHeardReply>(), 108);
     assert_eq!(offset_of!(ffi::DeskHeardReply, desk), 0);
-    assert_eq!(offset_of!(ffi::DeskHeardReply, number), 76);
-    assert_eq!(offset_of!(ffi::DeskHeardReply, heard), 77);
+    assert_eq!(offset_of!(ffi::DeskHeardReply, number), 104);
+    assert_eq!(offset_of!(ffi::DeskHeardReply, heard), 105);
 }
 
 #[test]
@@ -148,10 +189,11 @@ fn a_new_desk_stands_at_the_start_of_a_round() {
     let due = Desk {
         jobs: [at(120, 0); SECTORS],
         heard: [0; SECTORS],
-        left: 120,
+        shares: [15; SECTORS],
+        left: [15; SECTORS],
     };
     assert_eq!([Desk::new(), Desk::default()], [due.clone(), due]);
-    assert_eq!((SECTORS, ROUND_TURNS), (8, 120));
+    assert_eq!((SECTORS, ROUND_TURNS, FIRST_SHARE), (8, 120, 15));
 }
 
 /// Turns of empty columns are skipped and paid for, so all sectors are finished after eight rounds.
@@ -168,7 +210,7 @@ fn eight_sectors_share_eight_rounds() {
         for sector in 0..SECTORS {
             hub.run(sector, 15, 15);
         }
-        assert_eq!(hub.desk.left, 0);
+        assert_eq!(hub.desk.left, [0; SECTORS]);
     }
     for (sector, record) in records.iter().enumerate() {
         hub.fetch(sector, record);
@@ -178,30 +220,105 @@ fn eight_sectors_share_eight_rounds() {
     assert_eq!(hub.desk.jobs[7], at(120, 120));
 }
 
+/// A busy sector uses up what it has left, and the others have theirs.
 #[test]
-fn who_comes_first_may_have_all() {
+fn no_sector_uses_turns_of_another() {
     let mut hub = Hub::new();
     for sector in [3, 5, 6] {
         hub.load(sector, &record_of(sector));
     }
-    hub.run(3, 100, 100);
-    hub.run(5, u16::MAX, 20);
+    hub.run(3, u16::MAX, 15);
+    hub.used_up(3, 1);
+    hub.run(5, 14, 14);
     hub.run(6, 0, 0);
+    hub.set_shares([0, 0, 0, 90, 0, 30, 0, 0]);
+    hub.used_up(3, 90); // the new share is that of the next round
+    hub.run(5, 30, 1);
+    hub.begin(); // the 15 turns that sector 6 has left are not added
+    hub.run(3, 100, 90);
+    hub.used_up(6, 1);
+    hub.run(6, 0, 0);
+    hub.run(5, 30, 30);
+    hub.set_shares([0, 0, 0, 0, 0, 0, 120, 0]);
     hub.begin();
-    hub.run(3, 21, 20);
-    hub.run(3, u16::MAX, 0);
-    hub.begin(); // the 100 turns left over are not added
-    hub.run(5, 101, 100);
-    hub.run(6, 120, 20);
-    hub.run(5, 1, 0);
+    hub.run(6, u16::MAX, 120);
+    hub.used_up(5, 15);
+    hub.set_shares([0, 0, 0, 40, 0, 80, 0, 0]);
     hub.begin();
-    hub.run(6, 100, 100);
+    hub.run(3, 40, 15);
+    hub.run(3, 40, 0);
+    hub.run(5, 76, 75);
     for sector in [3, 5, 6] {
         hub.fetch(sector, &record_of(sector));
     }
 }
 
-/// The smallest of the request, what the round has left and what the job has left.
+/// Not one round less: of 120 turns by 7, 17 rounds leave one.
+#[test]
+fn a_job_takes_120_divided_by_the_share_rounds() {
+    for (share, rounds) in [(1, 120), (7, 18), (8, 15), (59, 3), (60, 2), (120, 1)] {
+        let mut hub = Hub::new();
+        hub.set_shares(only(4, share));
+        hub.load(4, &record_of(7));
+        for round in 1..=rounds {
+            assert!(!hub.desk.jobs[4].is_finished());
+            hub.begin();
+            hub.run(4, share, share.min(120 - share * (round - 1)));
+        }
+        hub.fetch(4, &record_of(7));
+    }
+}
+
+/// They are taken on any desk, and any of up to 120 in total.
+#[test]
+fn shares_of_up_to_120_are_set() {
+    let none = [0; SECTORS];
+    let (one_under, zeros) = ([15, 15, 15, 15, 15, 15, 15, 14], [7, 0, 50, 0, 0, 63, 0, 0]);
+    for shares in [none, [15; SECTORS], one_under, zeros, [1; SECTORS]] {
+        for desk in [Desk::new(), busy(), made_up()] {
+            let mut hub = Hub::new();
+            hub.desk = desk;
+            hub.set_shares(shares);
+            hub.begin();
+            assert_eq!(hub.desk.left, shares);
+        }
+    }
+    for sector in 0..SECTORS {
+        let mut hub = Hub::new();
+        for share in 0..=ROUND_TURNS {
+            hub.set_shares(only(sector, share));
+            hub.begin();
+        }
+        assert_eq!(hub.desk.left, only(sector, 120));
+    }
+}
+
+/// Kept in 16 bits, some of the totals would be at most 120.
+#[test]
+fn shares_above_120_in_total_are_refused() {
+    let refuse = |shares| {
+        for desk in [Desk::new(), busy(), made_up()] {
+            refused(&desk, |d, _| d.set_shares(shares), SharesExceedRound);
+        }
+    };
+    refuse([u16::MAX; SECTORS]);
+    refuse([8_192; SECTORS]);
+    refuse([8_207; SECTORS]);
+    refuse([16, 15, 15, 15, 15, 15, 15, 15]);
+    refuse([15, 15, 15, 15, 15, 15, 15, 16]);
+    for sector in 0..SECTORS {
+        for share in [121, 255, 256, 376, 32_768, 65_535] {
+            refuse(only(sector, share));
+        }
+        for (share, next) in [(1, 120), (120, 120), (65_535, 1), (32_768, 32_768)] {
+            let mut shares = only(sector, share);
+            shares[(sector + 1) % SECTORS] = next;
+            refuse(shares);
+        }
+    }
+}
+
+/// The smallest of the request, what the sector has left and what its job has left.
 #[test]
 fn the_smallest_is_granted() {
     let numbers = [0, 1, 2, 59, 60, 61, 119, 120, 121, 256, u16::MAX];
@@ -222,16 +339,18 @@ fn the_smallest_is_granted() {
 }
 
 #[test]
-fn load_drops_a_job_and_leaves_the_round() {
+fn load_drops_a_job_and_leaves_the_count() {
     let record = mixed_matrix();
     for sector in 0..SECTORS {
         let mut hub = Hub::new();
+        hub.set_shares(only(sector, 120));
+        hub.begin();
         hub.load(sector, &record);
         hub.run(sector, 70, 70);
         hub.load(sector, &record);
         hub.run(sector, u16::MAX, 50);
         hub.load(sector, &record);
-        assert_eq!(hub.desk.left, 0);
+        hub.used_up(sector, 1);
         hub.begin();
         hub.run(sector, 120, 120);
         hub.fetch(sector, &record);
@@ -242,9 +361,9 @@ fn load_drops_a_job_and_leaves_the_round() {
 /// Its work counts as done, so that Run makes nothing and Fetch takes the words that are there.
 #[test]
 fn a_sector_that_was_never_loaded_is_served() {
-    for left in [0, 120] {
+    for left in [0, 15] {
         let mut hub = Hub::new();
-        hub.desk.left = left;
+        hub.desk.left = [left; SECTORS];
         for sector in 0..SECTORS as u32 {
             hub.run(sector as usize, u16::MAX, 0);
             assert_eq!(hub.desk.heard(sector), Ok(0));
@@ -265,22 +384,22 @@ fn a_sector_that_was_never_loaded_is_served() {
 #[test]
 fn a_made_up_desk_is_taken_as_it_is() {
     let mut hub = Hub::new();
-    hub.desk = Desk {
-        jobs: [at(u32::MAX, u32::MAX); SECTORS],
-        heard: [0xc3; SECTORS],
-        left: u16::MAX,
-    };
-    hub.desk.jobs[2] = at(5, 6);
-    hub.desk.jobs[6] = at(118, 1);
+    hub.desk = made_up();
     assert_eq!(hub.desk.heard(2), Ok(0xc3));
     hub.run(6, u16::MAX, 2);
     refused(&hub.desk, |d, l| d.run(2, 1, &mut l.area), NoSuchJob);
     refused(&hub.desk, |d, l| d.run(7, 0, &mut l.area), NoSuchJob);
     hub.load(2, &record_of(2));
     hub.run(2, u16::MAX, 120);
-    assert_eq!(hub.desk.left, u16::MAX - 122);
+    assert_eq!(hub.desk.left[2], u16::MAX - 120);
+    assert_eq!(hub.desk.left[6], u16::MAX - 2);
     hub.fetch(2, &record_of(2));
-    hub.begin();
+    hub.begin(); // shares far above 120 are taken as well
+    hub.load(5, &record_of(5));
+    hub.used_up(5, 1);
+    hub.load(3, &record_of(3));
+    hub.run(3, u16::MAX, 120);
+    assert_eq!(hub.desk.left[3], u16::MAX - 120);
 }
 
 /// Another sector is refused first, whatever else is wrong.
@@ -344,8 +463,8 @@ fn run_refuses() {
         }
         for turn in [0, 7, 119] {
             for request in [1, 120, 256, u16::MAX] {
-                refuse(at(turn, 0), 0, request, 512, RoundUsedUp);
-                refuse(at(turn, turn), 0, request, 512, RoundUsedUp);
+                refuse(at(turn, 0), 0, request, 512, CountUsedUp);
+                refuse(at(turn, turn), 0, request, 512, CountUsedUp);
             }
         }
     }
@@ -394,7 +513,7 @@ fn a_refused_run_gives_the_desk_back_and_no_job() {
         let desk = |job, left| placed(sector as usize, job, left);
         given_back(desk(at(7, 5), 9), sector, 511, AreaTooShort);
         given_back(desk(at(5, 6), 9), sector, 512, NoSuchJob);
-        given_back(desk(at(7, 5), 0), sector, 512, RoundUsedUp);
+        given_back(desk(at(7, 5), 0), sector, 512, CountUsedUp);
     }
     for sector in NO_SECTORS {
         given_back(busy(), sector, 512, NoSuchSector);
@@ -407,11 +526,12 @@ fn refused_replies_hold_nothing_else() {
     let hum = equal_parts(2);
     let (area, buffer) = (&mut [7; AREA_WORDS], &mut [7; RESULT_RECORD_BYTES]);
     // SAFETY: pointers and lengths are those of arrays.
-    let (loaded, heard, fetched) = unsafe {
+    let (loaded, heard, fetched, set) = unsafe {
         (
             ffi::hubqr_desk_load(busy(), 1, hum.as_ptr(), hum.len(), area.as_mut_ptr(), 512),
             ffi::hubqr_desk_heard(busy(), 8),
             ffi::hubqr_desk_fetch(busy(), 1, area.as_ptr(), 512, buffer.as_mut_ptr(), 2049),
+            ffi::hubqr_desk_set_shares(busy(), ffi::Shares { shares: [16; 8] }),
         )
     };
     let due = ffi::DeskLoadReply {
@@ -423,5 +543,6 @@ fn refused_replies_hold_nothing_else() {
     assert_eq!(loaded, due);
     assert_eq!((heard.desk, heard.number, heard.heard), (busy(), 12, 0));
     assert_eq!((fetched.desk, fetched.number), (busy(), 6));
+    assert_eq!((set.desk, set.number), (busy(), 14));
     assert_eq!((area, buffer), (&mut [7; 512], &mut [7; 2049]));
 }

@@ -32,8 +32,12 @@ fn each_has_words_of_its_own() {
     );
     assert_eq!(Refusal::NoSuchSector.to_string(), "the sector is above 7");
     assert_eq!(
-        Refusal::RoundUsedUp.to_string(),
-        "turns are requested for an unfinished job, and the round has none left"
+        Refusal::CountUsedUp.to_string(),
+        "turns are requested for an unfinished job, and the sector has none left in the round"
+    );
+    assert_eq!(
+        Refusal::SharesExceedRound.to_string(),
+        "the shares are above 120 in total"
     );
     assert_eq!(UnknownNumber(0).to_string(), "0 is no refusal number");
 }

@@ -3,6 +3,7 @@
 use std::fmt::{self, Display};
 
 use reference::area::AREA_WORDS;
+use reference::desk::SECTORS;
 use reference::records::RESULT_RECORD;
 
 use crate::common::twin::hexadecimal;
@@ -11,6 +12,7 @@ use crate::common::twin::hexadecimal;
 #[derive(Debug, Clone)]
 pub enum Call {
     Begin,
+    SetShares { shares: [u16; SECTORS] },
     Load { sector: u32, record: Vec<u8> },
     Run { sector: u32, request: u16 },
     Fetch { sector: u32 },
@@ -21,6 +23,7 @@ impl Call {
     pub fn name(&self) -> &'static str {
         match self {
             Call::Begin => "Begin",
+            Call::SetShares { .. } => "Set shares",
             Call::Load { .. } => "Load",
             Call::Run { .. } => "Run",
             Call::Fetch { .. } => "Fetch",
@@ -28,10 +31,10 @@ impl Call {
         }
     }
 
-    /// The sector that the call is for. A round begins for all.
+    /// The sector that the call is for. A round begins for all, and shares are set for all.
     pub fn sector(&self) -> Option<u32> {
         match *self {
-            Call::Begin => None,
+            Call::Begin | Call::SetShares { .. } => None,
             Call::Load { sector, .. }
             | Call::Run { sector, .. }
             | Call::Fetch { sector }
@@ -47,6 +50,7 @@ impl Display for Call {
             write!(f, " for sector {sector}")?;
         }
         match self {
+            Call::SetShares { shares } => write!(f, " of {shares:?}"),
             Call::Load { record, .. } => write!(f, " of {}", hexadecimal(record)),
             Call::Run { request, .. } => write!(f, " of {request}"),
             _ => Ok(()),

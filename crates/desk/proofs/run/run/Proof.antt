@@ -1,4 +1,4 @@
--- `run` meets its contract: past the tests, the engine's Run is accepted, and the round can pay what it takes. Assumes nothing.
+-- `run` meets its contract: past the tests, the engine's Run is accepted, and the sector's count can pay what it takes. Assumes nothing.
 use mathlib.Core.Path.{_≡_, refl, sym, ap, _∙_}
 use mathlib.Core.List.{List}
 use Prim.Native.Nat.{ℕ, zero, suc, _-_, _≤_, min}
@@ -10,7 +10,7 @@ use Rattle.engine.specs.declared.job.Job.{Job}
 use Rattle.engine.specs.declared.run.RunReply.{RunReply}
 use Rattle.engine.specs.Run.{RunOutcome, runRefusal, runDone, runBy, runOf}
 use Rattle.desk.specs.declared.Desk.{Desk}
-use Rattle.desk.specs.Desk.{sectorTest, jobAt, paid}
+use Rattle.desk.specs.Desk.{sectorTest, jobAt, leftAt, paid}
 use Rattle.desk.specs.Run.{DeskRunOutcome, deskRunRefusal, grant, deskRunDone, deskRunBy, deskRunOf}
 use Rattle.desk.proofs.Accepted.{sector-passed}
 use Rattle.desk.proofs.run.run.Statement.{statement}
@@ -46,11 +46,14 @@ passed desk sector request area h =
     let a = first-none (sectorTest sector) _ h in
     record { there = a .0; engine = first-none (runRefusal (jobAt desk sector) area) _ (a .1) .0 }
 
+left-at-requires : tie.Need-left-at-requires
+left-at-requires c κs = sector-passed _ (passed _ _ _ _ (none c) .there)
+
 smaller-requires : tie.Need-smaller-requires
 smaller-requires c κs = search needs
 
 job-at-requires : tie.Need-job-at-requires
-job-at-requires c κs = sector-passed _ (passed _ _ _ _ (none (c .before)) .there)
+job-at-requires c κs = sector-passed _ (passed _ _ _ _ (none (c .before .before)) .there)
 
 run-requires : tie.Need-run-requires
 run-requires c κs = search needs
@@ -67,45 +70,46 @@ unfolding runDone
 counted job count area after r o = ap (λ (x : RunOutcome). x .reply .count) o
 
 ran : (c : tie.After-run) → let m = c .before .before .before in
-    let a = m .before .before .before .before .args in
+    let a = m .before .before .before .before .before .args in
     let job = jobAt (a .desk) (a .sector) in
     _≡_ {A = RunOutcome} (record { reply = c .run .result; workspace = c .run .last .1 .1 .0 }) (runDone job (min (m .smaller .result) (120 - job .turn)) (a .area .now))
 ran c =
     let j = c .before .before in
-    accepted _ _ _ _ _ _ (j .job-at .ensures) (passed _ _ _ _ (none (j .before .before)) .engine) (c .run .ensures)
+    accepted _ _ _ _ _ _ (j .job-at .ensures) (passed _ _ _ _ (none (j .before .before .before)) .engine) (c .run .ensures)
 
-few : (c : tie.After-run) → let a = c .before .before .before .before .before .before .before .args in c .run .result .count ≤ min (a .request) (a .desk .left)
+few : (c : tie.After-run) → let m = c .before .before .before in c .run .result .count ≤ min (m .before .before .before .before .before .args .request) (m .before .left-at .result)
 few c = let m = c .before .before .before in omega (arith, m .smaller .ensures, counted _ _ _ _ _ (ran c))
 
-cast-paid : tie.Need-cast-paid
-cast-paid c = omega (arith, few (c .before .before))
+cast-rest : tie.Need-cast-rest
+cast-rest c = omega (arith, few (c .before .before))
+
+sub-rest : tie.Need-sub-rest
+sub-rest c = omega (arith, few (c .before .before))
 
 paid-requires : tie.Need-paid-requires
-paid-requires c κs =
-    let r = c .before .before in
-    (sector-passed _ (passed _ _ _ _ (none (r .before .before .before .before)) .there), omega (arith, few r))
+paid-requires c κs = sector-passed _ (passed _ _ _ _ (none (c .before .before .before .before .before .before .before)) .there)
 
 same-length-2 : tie.Need-same-length-2
 same-length-2 c = search needs
 
-done-is : (desk d : Desk) (sector request budget : ℕ) (area after : List ℤ) (r : RunReply) → (let job = jobAt desk sector in
-    budget ≡ min request (desk .left) → _≡_ {A = RunOutcome} (record { reply = r; workspace = after }) (runDone job (min budget (120 - job .turn)) area)
-    → d ≡ paid desk sector (r .job) (r .count)
+done-is : (desk d : Desk) (sector request budget left : ℕ) (area after : List ℤ) (r : RunReply) → (let job = jobAt desk sector in
+    left ≡ leftAt desk sector → budget ≡ min request left → _≡_ {A = RunOutcome} (record { reply = r; workspace = after }) (runDone job (min budget (120 - job .turn)) area)
+    → d ≡ paid desk sector (r .job) (left - r .count)
     → _≡_ {A = DeskRunOutcome}
     (record { reply = record { desk = d; number = 0; job = r .job; count = r .count; «clamps_r» = r .«clamps_r»; «clamps_q» = r .«clamps_q» }; area = after })
-    (deskRunDone desk sector (grant job (desk .left) request) area))
+    (deskRunDone desk sector (grant job (leftAt desk sector) request) area))
 unfolding deskRunDone runDone
-done-is desk d sector request budget area after r b o p =
-    let count = grant (jobAt desk sector) (desk .left) request in
-    let q : _≡_ {A = RunOutcome} (record { reply = r; workspace = after }) (runDone (jobAt desk sector) count area) = rw (← b) o in
-    rw (p, ap (λ (x : RunOutcome). x .reply .job) q, ap (λ (x : RunOutcome). x .reply .count) q, ap (λ (x : RunOutcome). x .reply .«clamps_r») q, ap (λ (x : RunOutcome). x .reply .«clamps_q») q, ap (λ (x : RunOutcome). x .workspace) q)
+done-is desk d sector request budget left area after r f b o p =
+    let count = grant (jobAt desk sector) (leftAt desk sector) request in
+    let q : _≡_ {A = RunOutcome} (record { reply = r; workspace = after }) (runDone (jobAt desk sector) count area) = rw (← f, ← b) o in
+    rw (p, f, ap (λ (x : RunOutcome). x .reply .job) q, ap (λ (x : RunOutcome). x .reply .count) q, ap (λ (x : RunOutcome). x .reply .«clamps_r») q, ap (λ (x : RunOutcome). x .reply .«clamps_q») q, ap (λ (x : RunOutcome). x .workspace) q)
 
 returns-2 : tie.Need-returns-2
 unfolding deskRunOf deskRunBy
 returns-2 c =
     let r = c .before .before .before in
     let m = r .before .before .before in
-    rw (none (m .before)) (done-is _ _ _ _ _ _ _ (r .run .result) (m .smaller .ensures) (ran r) (c .paid .ensures))
+    rw (none (m .before .before)) (done-is _ _ _ _ _ _ _ _ (r .run .result) (m .before .left-at .ensures) (m .smaller .ensures) (ran r) (c .paid .ensures))
 
 pub run-spec : {M : Type 1} → statement M
 run-spec =
@@ -114,10 +118,12 @@ run-spec =
     run-refusal-requires
     same-length
     returns
+    left-at-requires
     smaller-requires
     job-at-requires
     run-requires
-    cast-paid
+    cast-rest
+    sub-rest
     paid-requires
     same-length-2
     returns-2)

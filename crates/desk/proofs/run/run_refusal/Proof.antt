@@ -30,15 +30,19 @@ returns-2 c =
     let j = c .before .before in
     rw (none (j .before), ← (j .job-at .ensures), ← (c .before .run-refusal .ensures)) (first-is _ _ (c .if2 .taken))
 
-round-refusal-requires : tie.Need-round-refusal-requires
-round-refusal-requires c κs = search needs
+left-at-requires : tie.Need-left-at-requires
+left-at-requires c κs = sector-passed _ (none (c .before .before .before))
+
+count-refusal-requires : tie.Need-count-refusal-requires
+count-refusal-requires c κs = search needs
 
 returns-3 : tie.Need-returns-3
 unfolding deskRunRefusal
 returns-3 c =
-    let r = c .before .before in
+    let l = c .before in
+    let r = l .before .before in
     let j = r .before in
-    rw (none (j .before), ← (j .job-at .ensures), ← (r .run-refusal .ensures), c .before .if2 .left) (c .round-refusal .ensures)
+    rw (none (j .before), ← (j .job-at .ensures), ← (r .run-refusal .ensures), l .before .if2 .left, ← (l .left-at .ensures)) (c .count-refusal .ensures)
 
 pub run-refusal-spec : {M : Type 1} → statement M
 run-refusal-spec =
@@ -49,5 +53,6 @@ run-refusal-spec =
     job-at-requires
     run-refusal-requires
     returns-2
-    round-refusal-requires
+    left-at-requires
+    count-refusal-requires
     returns-3)

@@ -1,0 +1,57 @@
+// The shares of the sectors, set all eight in one call.
+use crate::Desk;
+use crate::DeskReply;
+use crate::ROUND_TURNS;
+ghost use mathlib.Core.Path.{_≡_};
+ghost use Prim.Native.Nat.{_≤_};
+ghost use Rattle.desk.specs.Shares.{totalOf, sharesTest, setSharesOf};
+
+// The share of sector k at place k.
+#[repr(C)]
+pub struct Shares {
+    pub shares: [u16; 8],
+}
+
+// A share as a number to which others can be added.
+fn wide(share: u16) -> u32
+    ensures { λ r. ⌜ (r ≡ share) × (r ≤ 65535) ⌝ }
+{
+    share as u32
+}
+
+fn total(shares: [u16; 8]) -> u32
+    ensures { λ r. ⌜ r ≡ totalOf shares ⌝ }
+{
+    let mut sum: u32 = 0;
+    for k in 0..8 {
+        sum += wide(shares[k]);
+    }
+    sum
+}
+
+// The number of test 14 if it fails, else 0.
+fn shares_refusal(shares: [u16; 8]) -> u8
+    ensures { λ r. ⌜ r ≡ sharesTest shares ⌝ }
+{
+    if (ROUND_TURNS as u32) < total(shares) {
+        return refusals::SHARES_EXCEED_ROUND;
+    }
+    0
+}
+
+// Sets all eight shares, which count from the next round on; or refuses and changes nothing.
+pub fn set_shares(desk: Desk, shares: Shares) -> DeskReply
+    ensures { λ r. ⌜ r ≡ setSharesOf desk (shares .shares) ⌝ }
+{
+    let all = shares.shares;
+    let number = shares_refusal(all);
+    if number != 0 {
+        return DeskReply { desk, number };
+    }
+    let mut shared = desk;
+    shared.shares = all;
+    DeskReply {
+        desk: shared,
+        number: 0,
+    }
+}

@@ -1,0 +1,192 @@
+-- A loaded sector that requests its share in every round finishes in time. Assumes nothing.
+use mathlib.Core.Path.{_≡_, refl, sym, ap, _∙_, subst}
+use mathlib.Core.List.{List, [], _∷_, _++_}
+use Prim.Native.Nat.{ℕ, zero, suc, _+_, _-_, _*_, _≤_, _<_, min}
+use native.Mathlib.Nat.{div-add-mod', mod-lt, mul-le-mul-right, suc-mul, zero-mul}
+use native.Mathlib.Omega.{arith}
+use lib.ListN.{length}
+use Rattle.lists.specs.Histories.{afterAll}
+use Rattle.lists.proofs.Histories.{after-append, Along, along-of, along-first, along-rest}
+use Rattle.engine.specs.Load.{loadBy}
+use Rattle.engine.specs.Run.{nextJob, runDone}
+use Rattle.engine.proofs.Accepted.{PossibleJob, run-passes}
+use Rattle.engine.proofs.Taken.{possible-next}
+use Rattle.desk.specs.Desk.{jobAt}
+use Rattle.desk.proofs.Accepted.{left-passes}
+use Rattle.desk_laws.specs.Calls.{Lent, Call, load, run, fetch, heard, begin, setShares, Hub, new, lentWords, Answer, next, after, Kind, own, other, round, setting, kind}
+use Rattle.desk_laws.specs.Unloaded.{IsLoad}
+use Rattle.desk_laws.specs.Finish.{Undisturbed, EachUndisturbed, Requests, inRounds, EachRequests, roundedUp, FinishesInTime}
+use Rattle.desk_laws.proofs.Seats.{Seat, seat, Eight, loadSeat, runSeat, loadNumber, runNumber, seatGrant, ownNext, loadAnswer, ownAnswer, own-kind, own-answer, own-next, refilled, sharing, step, seat-next, eight-next, eight-after, eight-new}
+
+-- ---- what holds of a sector of share s until it is loaded
+
+pub record Steady (s : ℕ) (P : Seat → Type 0) : Type 0 where
+  pub ran : (n request : ℕ) (a : Seat) (lent : Lent) → P a → P (runSeat n a (seatGrant a request) lent)
+  pub began : (a : Seat) → a .share ≡ s → P a → P (refilled a)
+  pub set : (t : ℕ) (a : Seat) → P a → P (sharing a t)
+
+module _ (i s : ℕ) (small : i < 8) (P : Seat → Type 0) (r : Steady s P) where
+  load-steady : (a : Seat) (rec : List ℕ) (lent : Lent) (n : ℕ) → (loadAnswer n rec (lentWords (a .area) lent) .number ≡ 0 → ⊥) → P a → P (loadSeat n a rec lent)
+  load-steady a rec lent zero f x = absurd (f refl)
+  load-steady a rec lent (suc n) f x = x
+
+  own-steady : (a : Seat) (c : Call) → (IsLoad c → ownAnswer a c .number ≡ 0 → ⊥) → P a → P (ownNext a c)
+  own-steady a (load j rec lent) f x = load-steady a rec lent (loadNumber a rec lent) (f tt) x
+  own-steady a (run j request lent) f x = r .ran (runNumber a request lent) request a lent x
+  own-steady a (fetch j buffer lent) f x = x
+  own-steady a (heard j) f x = x
+  own-steady a begin f x = x
+  own-steady a (setShares shares eight) f x = x
+
+  steady-kind : (h : Hub) (c : Call) (k : Kind) → kind i c ≡ k → Eight (h .desk) → Undisturbed i s h c → P (seat i h) → P (step k c (seat i h))
+  steady-kind h c own e w u x =
+      let n = ap (λ (a : Answer). a .number) (own-answer h i small w c e) in
+      own-steady (seat i h) c (λ t z. u .not-loaded e t (n ∙ z)) x
+  steady-kind h c other e w u x = x
+  steady-kind h c round e w u x = r .began (seat i h) (u .share) x
+  steady-kind h c (setting t) e w u x = r .set t (seat i h) x
+
+  steady-next : (h : Hub) (c : Call) → Eight (h .desk) → Undisturbed i s h c → P (seat i h) → P (seat i (next h c))
+  steady-next h c w u x = subst P (sym (seat-next h i small w c)) (steady-kind h c (kind i c) refl w u x)
+
+  pub steady-after : (h : Hub) (calls : List Call) → Eight (h .desk) → Along next (Undisturbed i s) h calls → P (seat i h) → P (seat i (after h calls))
+  unfolding Along afterAll
+  steady-after h [] w u x = x
+  steady-after h (c ∷ calls) w u x = steady-after (next h c) calls (eight-next h c w) (u .1) (steady-next h c w (u .0) x)
+
+-- ---- how far a sector is
+
+-- its job stands at n or later
+pub record Grown (n : ℕ) (a : Seat) : Type 0 where
+  pub from : n ≤ a .job .turn
+  pub possible : PossibleJob (a .job)
+
+-- and with what it has left in the round it comes to n + s
+record Held (n s : ℕ) (a : Seat) : Type 0 where
+  grown : Grown n a
+  reach : n + s ≤ a .job .turn + a .left
+  few : a .left ≤ s
+
+grown-ran : (n k request : ℕ) (a : Seat) (lent : Lent) → Grown n a → Grown n (runSeat k a (seatGrant a request) lent)
+unfolding runDone nextJob
+grown-ran n zero request a lent x = record {
+  from = omega (arith, x .from);
+  possible = possible-next (a .job) (seatGrant a request) (lentWords (a .area) lent) (omega arith) (x .possible);
+}
+grown-ran n (suc k) request a lent x = x
+
+held-ran : (n s k request : ℕ) (a : Seat) (lent : Lent) → Held n s a → Held n s (runSeat k a (seatGrant a request) lent)
+unfolding runDone nextJob
+held-ran n s zero request a lent x =
+    record { grown = grown-ran n 0 request a lent (x .grown); reach = omega (arith, x .reach); few = omega (arith, x .few) }
+held-ran n s (suc k) request a lent x = x
+
+grown-steady : (s n : ℕ) → Steady s (Grown n)
+grown-steady s n = record {
+  ran = λ k request a lent x. grown-ran n k request a lent x;
+  began = λ a e x. record { from = x .from; possible = x .possible };
+  set = λ t a x. record { from = x .from; possible = x .possible };
+}
+
+held-begun : (n s : ℕ) (a : Seat) → a .share ≡ s → Grown n a → Held n s (refilled a)
+held-begun n s a e x = record { grown = record { from = x .from; possible = x .possible }; reach = omega (arith, e, x .from); few = omega (arith, e) }
+
+held-steady : (s n : ℕ) → Steady s (Held n s)
+held-steady s n = record {
+  ran = λ k request a lent x. held-ran n s k request a lent x;
+  began = λ a e x. held-begun n s a e (x .grown);
+  set = λ t a x. record { grown = record { from = x .grown .from; possible = x .grown .possible }; reach = x .reach; few = x .few };
+}
+
+-- ---- a request of its share or more: it has none left and has come to n + s, or it is granted what it has left
+
+module _ (n s request : ℕ) (fits : s ≤ request) (a : Seat) (lent : Lent) (room : 512 ≤ length (lentWords (a .area) lent)) (x : Held n s a) where
+  accepted : 0 < a .left → runNumber a request lent ≡ 0
+  accepted some =
+      let r = run-passes (a .job) (lentWords (a .area) lent) (record { room = room; possible = x .grown .possible }) in
+      rw (r, left-passes (a .job) (a .left) request some)
+
+  granted : Grown (min (n + s) 120) (runSeat 0 a (seatGrant a request) lent)
+  unfolding runDone nextJob
+  granted = record {
+    from = omega (arith, fits, x .reach, x .few, x .grown .possible .turn);
+    possible = possible-next (a .job) (seatGrant a request) (lentWords (a .area) lent) (omega arith) (x .grown .possible);
+  }
+
+  by-left : (m : ℕ) → a .left ≡ m → Grown (min (n + s) 120) (runSeat (runNumber a request lent) a (seatGrant a request) lent)
+  by-left zero e =
+      grown-ran (min (n + s) 120) (runNumber a request lent) request a lent (record { from = omega (arith, x .reach, e); possible = x .grown .possible })
+  by-left (suc m) e =
+      subst (λ (k : ℕ). Grown (min (n + s) 120) (runSeat k a (seatGrant a request) lent)) (sym (accepted (omega (arith, e)))) granted
+
+-- ---- rounds
+
+module _ (i s : ℕ) (small : i < 8) where
+  -- the calls of one round: those before the request, the request, and those after it
+  one-round : (n : ℕ) (h : Hub) (calls : List Call) → Eight (h .desk) → Along next (Undisturbed i s) h (begin ∷ calls) → Requests i s (next h begin) calls
+      → Grown n (seat i h) → Grown (min (n + s) 120) (seat i (after (next h begin) calls))
+  unfolding Along afterAll
+  one-round n h calls w u r x =
+      let p = r .place in
+      let c = run i (r .request) (r .lent) in
+      let b = next h begin in
+      let m = after b (p .before) in
+      let w′ = eight-next h begin w in
+      let w″ = eight-after b (p .before) w′ in
+      let v : Along next (Undisturbed i s) b (p .before ++ c ∷ p .rest) = subst (Along next (Undisturbed i s) b) (p .is) (u .1) in
+      let v′ : Along next (Undisturbed i s) m (c ∷ p .rest) = along-rest next (Undisturbed i s) b (p .before) (c ∷ p .rest) v in
+      let begun : Held n s (seat i b) = subst (Held n s) (sym (seat-next h i small w begin)) (held-begun n s (seat i h) (u .0 .share) x) in
+      let held : Held n s (seat i m) =
+      steady-after i s small (Held n s) (held-steady s n) b (p .before) w′ (along-first next (Undisturbed i s) b (p .before) (c ∷ p .rest) v) begun in
+      let asked : Grown (min (n + s) 120) (seat i (next m c)) =
+      subst (Grown (min (n + s) 120)) (sym (own-next m i small w″ c (own-kind i))) (by-left n s (r .request) (r .enough) (seat i m) (r .lent) (r .room) held (seat i m .left) refl) in
+      let end = steady-after i s small (Grown (min (n + s) 120)) (grown-steady s (min (n + s) 120)) (next m c) (p .rest) (eight-next m c w″) (v′ .1) asked in
+      subst (λ (g : Hub). Grown (min (n + s) 120) (seat i g)) (sym (ap (after b) (p .is) ∙ after-append next b (p .before) (c ∷ p .rest))) end
+
+  all-rounds : (n : ℕ) (h : Hub) (rounds : List (List Call)) → Eight (h .desk) → Along next (Undisturbed i s) h (inRounds rounds) → EachRequests i s h rounds
+      → Grown n (seat i h) → Grown (min (n + length rounds * s) 120) (seat i (after h (inRounds rounds)))
+  unfolding afterAll inRounds EachRequests
+  all-rounds n h [] w u r x = record { from = omega (arith, zero-mul s, x .from); possible = x .possible }
+  all-rounds n h (calls ∷ rounds) w u r x =
+      let b = next h begin in
+      let m = after b calls in
+      let y = one-round n h calls w (along-first next (Undisturbed i s) h (begin ∷ calls) (inRounds rounds) u) (r .0) x in
+      let z = all-rounds (min (n + s) 120) m rounds (eight-after b calls (eight-next h begin w)) (along-rest next (Undisturbed i s) h (begin ∷ calls) (inRounds rounds) u) (r .1) y in
+      let f : Grown (min (n + suc (length rounds) * s) 120) (seat i (after m (inRounds rounds))) =
+      record { from = omega (arith, suc-mul (length rounds) s, z .from); possible = z .possible } in
+      subst (λ (g : Hub). Grown (min (n + suc (length rounds) * s) 120) (seat i g)) (sym (after-append next b calls (inRounds rounds))) f
+
+-- as many rounds as 120 divided by s, rounded up, have 120 turns or more
+enough : (s m : ℕ) → 0 < s → roundedUp 120 s ≤ m → 120 ≤ m * s
+enough s m h e =
+    let q = div-add-mod' (120 + s - 1) s in
+    let r = mod-lt (120 + s - 1) h in
+    let t = mul-le-mul-right s e in
+    omega arith
+
+-- ---- the law
+
+-- an accepted Load leaves it at the start
+loaded-grown : (a : Seat) (rec : List ℕ) (lent : Lent) (n : ℕ) → loadAnswer n rec (lentWords (a .area) lent) .number ≡ 0 → Grown 0 (loadSeat n a rec lent)
+unfolding loadBy
+loaded-grown a rec lent zero e = record { from = omega arith; possible = record { turn = omega arith; made = omega arith } }
+loaded-grown a rec lent (suc n) e = absurd (omega (arith, e))
+
+pub finishes-in-time : FinishesInTime
+unfolding EachUndisturbed
+finishes-in-time i s areas before rec lent rest rounds small positive loaded u r e =
+    let h = after (new areas) before in
+    let c = load i rec lent in
+    let g = next h c in
+    let w = eight-after (new areas) before (eight-new areas) in
+    let w′ = eight-next h c w in
+    let v = along-of next (Undisturbed i s) g (rest ++ inRounds rounds) u in
+    let n = ap (λ (a : Answer). a .number) (own-answer h i small w c (own-kind i)) in
+    let x : Grown 0 (seat i g) = subst (Grown 0) (sym (own-next h i small w c (own-kind i))) (loaded-grown (seat i h) rec lent (loadNumber (seat i h) rec lent) (sym n ∙ loaded)) in
+    let y = steady-after i s small (Grown 0) (grown-steady s 0) g rest w′ (along-first next (Undisturbed i s) g rest (inRounds rounds) v) x in
+    let z = all-rounds i s small 0 (after g rest) rounds (eight-after g rest w′) (along-rest next (Undisturbed i s) g rest (inRounds rounds) v) r y in
+    let f = enough s (length rounds) positive e in
+    ap (λ (k : Hub). jobAt (k .desk) i .turn) (after-append next g rest (inRounds rounds)) ∙ done (z .from) (z .possible .turn) f
+  where
+    done : {m j : ℕ} → min (0 + m) 120 ≤ j → j ≤ 120 → 120 ≤ m → j ≡ 120
+    done a b c = omega arith

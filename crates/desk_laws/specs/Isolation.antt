@@ -1,0 +1,69 @@
+-- Document 02, U10: a sector's grants depend on its own shares, job and requests and on when rounds begin, whatever the other seven do; and so does all
+-- else that its calls are answered. Assumes nothing.
+use mathlib.Core.Path.{_≡_}
+use mathlib.Core.List.{List, [], _∷_, _++_}
+use Prim.Native.Nat.{ℕ, _≤_, _<_}
+use lib.IntN.{ℤ}
+use lib.ListN.{length, getD}
+use Rattle.lists.specs.Histories.{Place}
+use Rattle.desk.specs.Desk.{sectorCount, roundTurns, shareAt, leftAt}
+use Rattle.desk.specs.Shares.{totalOf}
+use Rattle.desk_laws.specs.Calls.{Lent, Call, load, run, fetch, heard, setShares, Hub, new, Answer, answer, next, after, Kind, own, other, round, setting, kind}
+use Rattle.desk_laws.specs.Alone.{standing}
+
+-- what concerns a sector in a list of calls: its own calls, refused ones too, where rounds begin, and the shares that it is given. No call of another sector
+-- is seen, nor a setting that is refused, nor what a setting gives to others
+pub data Seen : Type 0 where
+  mine : Call → Seen
+  begins : Seen
+  given : ℕ → Seen
+
+abbrev pub seenAt : Kind → Call → List Seen
+seenAt own c = mine c ∷ []
+seenAt other c = []
+seenAt round c = begins ∷ []
+seenAt (setting s) c = given s ∷ []
+
+unfoldable pub view : ℕ → List Call → List Seen
+view i [] = []
+view i (c ∷ calls) = seenAt (kind i c) c ++ view i calls
+
+-- what the sector's calls are answered
+abbrev pub told : Kind → Answer → List Answer → List Answer
+told own a rest = a ∷ rest
+told other a rest = rest
+told round a rest = rest
+told (setting s) a rest = rest
+
+unfoldable pub answers : ℕ → Hub → List Call → List Answer
+answers i h [] = []
+answers i h (c ∷ calls) = told (kind i c) (answer h c) (answers i (next h c) calls)
+
+-- the sector's calls are answered the same, grants and all, and its job, heard byte, area, share and count are the same in the end
+pub record SameFor (i : ℕ) (h g : Hub) (calls calls′ : List Call) : Type 0 where
+  pub answered : answers i h calls ≡ answers i g calls′
+  pub stands : standing i (after h calls) ≡ standing i (after g calls′)
+  pub share : shareAt (after h calls .desk) i ≡ shareAt (after g calls′ .desk) i
+  pub left : leftAt (after h calls .desk) i ≡ leftAt (after g calls′ .desk) i
+
+abbrev pub Isolation : Type 0
+Isolation = (i : ℕ) (areas areas′ : ℕ → List ℤ) (calls calls′ : List Call) → i < sectorCount → areas i ≡ areas′ i
+    → view i calls ≡ view i calls′ → SameFor i (new areas) (new areas′) calls calls′
+
+-- ---- so the premise can be met by lists that differ: what other sectors call may be left out, and so may a setting that is refused
+abbrev pub WithoutOthers : Type 0
+WithoutOthers = (i : ℕ) (areas areas′ : ℕ → List ℤ) (before others rest : List Call) → i < sectorCount → areas i ≡ areas′ i
+    → ((c : Call) → Place c others → kind i c ≡ other) → SameFor i (new areas) (new areas′) (before ++ others ++ rest) (before ++ rest)
+
+-- these are no affair of sector i: each call for another sector j, with whatever it is handed, and shares above 120 in total. Of other shares the sector sees
+-- its own alone
+pub record Unseen (i j : ℕ) : Type 0 where
+  pub load : (rec : List ℕ) (lent : Lent) → kind i (load j rec lent) ≡ other
+  pub run : (request : ℕ) (lent : Lent) → kind i (run j request lent) ≡ other
+  pub fetch : (buffer : List ℕ) (lent : Lent) → kind i (fetch j buffer lent) ≡ other
+  pub heard : kind i (heard j) ≡ other
+  pub refused : (shares : List ℕ) (eight : length shares ≡ sectorCount) → roundTurns < totalOf shares → kind i (setShares shares eight) ≡ other
+  pub accepted : (shares : List ℕ) (eight : length shares ≡ sectorCount) → totalOf shares ≤ roundTurns → kind i (setShares shares eight) ≡ setting (getD shares i 0)
+
+abbrev pub OthersUnseen : Type 0
+OthersUnseen = (i j : ℕ) → (i ≡ j → ⊥) → Unseen i j
