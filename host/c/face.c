@@ -10,7 +10,7 @@ _Static_assert(HUBQR_HEARD_ABOVE == 16, "the real part that an antenna has to pa
 _Static_assert(HUBQR_MATRIX_RECORD_BYTES == 1 + 64 * 4, "64 elements of four bytes behind the kind byte");
 _Static_assert(HUBQR_SUM_WORDS == 2 * HUBQR_ANTENNAS * HUBQR_ANTENNAS, "a real and an imaginary sum for each element");
 _Static_assert(HUBQR_MATRIX_RECORD_BYTES == 1 + 2 * HUBQR_SUM_WORDS, "a part of two bytes for each sum behind the kind byte");
-_Static_assert(HUBQR_ROUND_TURNS == HUBQR_TURNS, "a round has the turns of one matrix");
+_Static_assert(HUBQR_ROUND_TURNS == HUBQR_TURNS, "a round has at most the turns of one matrix");
 _Static_assert(HUBQR_SECTORS * HUBQR_FIRST_SHARE == HUBQR_ROUND_TURNS, "the first shares are the whole of a round");
 _Static_assert(HUBQR_RESULT_RECORD_BYTES == 1 + HUBQR_AREA_WORDS * 4, "the area's words behind the kind byte");
 

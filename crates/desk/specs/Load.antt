@@ -17,7 +17,7 @@ pub record DeskLoadOutcome : Type 0 where
 unfoldable pub deskLoadRefusal : ℕ → List ℕ → List ℤ → ℕ
 deskLoadRefusal sector rec area = first (sectorTest sector) (loadRefusal rec area)
 
--- by that number. The engine's Load is done, and what it answers is the sector's: a job under way starts over, and its count neither pays nor gains. A
+-- by that number. The engine's Load is done, and what it answers is the sector's: a job under way starts over, and the sector's count neither pays nor gains. A
 -- refusal answers its number and the desk as it was, other fields 0, and changes nothing
 unfoldable pub deskLoadBy : ℕ → Desk → ℕ → List ℕ → List ℤ → DeskLoadOutcome
 deskLoadBy zero desk sector rec area =

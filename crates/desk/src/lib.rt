@@ -1,6 +1,6 @@
-// A desk for eight sectors over the engine: each sector has its own job, heard byte and area, and its own share of a round of 120 turns. The host keeps
-// the desk and hands it to each call, which answers it anew. Each call tests its own input and refuses by the number of the first test that fails,
-// with the desk and every lent buffer as they were and all other fields 0.
+// A desk for eight sectors over the engine: each sector has its own job, heard byte and area, and its own share of a round. The host keeps the desk and
+// hands it to each call, which answers it anew. Each call tests its own input and refuses by the number of the first test that fails, with the desk and
+// every lent buffer as they were and all other fields 0.
 pub mod fetch;
 pub mod heard;
 pub mod load;
@@ -12,7 +12,7 @@ use engine::job::Job;
 ghost use mathlib.Core.Path.{_≡_};
 ghost use Rattle.desk.specs.Desk.{newDesk, beginOf};
 
-// The turns of a round, for all sectors: what their shares make at most.
+// What the shares of all sectors make at most, and so the turns of a round.
 pub const ROUND_TURNS: u16 = 120;
 
 // The share of each sector at first.

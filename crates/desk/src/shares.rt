@@ -12,7 +12,7 @@ pub struct Shares {
     pub shares: [u16; 8],
 }
 
-// A share as a number to which others can be added.
+// A share as a wider number. The bound is for the sum: eight of them cannot wrap it.
 fn wide(share: u16) -> u32
     ensures { λ r. ⌜ (r ≡ share) × (r ≤ 65535) ⌝ }
 {

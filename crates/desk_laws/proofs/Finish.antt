@@ -13,53 +13,30 @@ use Rattle.engine.proofs.Accepted.{PossibleJob, run-passes}
 use Rattle.engine.proofs.Taken.{possible-next}
 use Rattle.desk.specs.Desk.{jobAt}
 use Rattle.desk.proofs.Accepted.{left-passes}
-use Rattle.desk_laws.specs.Calls.{Lent, Call, load, run, fetch, heard, begin, setShares, Hub, new, lentWords, Answer, next, after, Kind, own, other, round, setting, kind}
-use Rattle.desk_laws.specs.Unloaded.{IsLoad}
+use Rattle.desk_laws.specs.Calls.{Lent, Call, load, run, begin, Hub, new, lentWords, Answer, next, after}
 use Rattle.desk_laws.specs.Finish.{Undisturbed, EachUndisturbed, Requests, inRounds, EachRequests, roundedUp, FinishesInTime}
-use Rattle.desk_laws.proofs.Seats.{Seat, seat, Eight, loadSeat, runSeat, loadNumber, runNumber, seatGrant, ownNext, loadAnswer, ownAnswer, own-kind, own-answer, own-next, refilled, sharing, step, seat-next, eight-next, eight-after, eight-new}
+use Rattle.desk_laws.proofs.Seats.{Seat, seat, Eight, loadSeat, runSeat, loadNumber, runNumber, seatGrant, loadAnswer, own-kind, own-answer, own-next, refilled, seat-next, eight-next, eight-after, eight-new}
+use Rattle.desk_laws.proofs.Steady.{Steady, steady-next}
 
--- ---- what holds of a sector of share s until it is loaded
+-- ---- call by call
 
-pub record Steady (s : ℕ) (P : Seat → Type 0) : Type 0 where
-  pub ran : (n request : ℕ) (a : Seat) (lent : Lent) → P a → P (runSeat n a (seatGrant a request) lent)
-  pub began : (a : Seat) → a .share ≡ s → P a → P (refilled a)
-  pub set : (t : ℕ) (a : Seat) → P a → P (sharing a t)
+-- the sector's share is s
+abbrev HasShare : ℕ → Seat → Type 0
+HasShare s a = a .share ≡ s
 
-module _ (i s : ℕ) (small : i < 8) (P : Seat → Type 0) (r : Steady s P) where
-  load-steady : (a : Seat) (rec : List ℕ) (lent : Lent) (n : ℕ) → (loadAnswer n rec (lentWords (a .area) lent) .number ≡ 0 → ⊥) → P a → P (loadSeat n a rec lent)
-  load-steady a rec lent zero f x = absurd (f refl)
-  load-steady a rec lent (suc n) f x = x
-
-  own-steady : (a : Seat) (c : Call) → (IsLoad c → ownAnswer a c .number ≡ 0 → ⊥) → P a → P (ownNext a c)
-  own-steady a (load j rec lent) f x = load-steady a rec lent (loadNumber a rec lent) (f tt) x
-  own-steady a (run j request lent) f x = r .ran (runNumber a request lent) request a lent x
-  own-steady a (fetch j buffer lent) f x = x
-  own-steady a (heard j) f x = x
-  own-steady a begin f x = x
-  own-steady a (setShares shares eight) f x = x
-
-  steady-kind : (h : Hub) (c : Call) (k : Kind) → kind i c ≡ k → Eight (h .desk) → Undisturbed i s h c → P (seat i h) → P (step k c (seat i h))
-  steady-kind h c own e w u x =
-      let n = ap (λ (a : Answer). a .number) (own-answer h i small w c e) in
-      own-steady (seat i h) c (λ t z. u .not-loaded e t (n ∙ z)) x
-  steady-kind h c other e w u x = x
-  steady-kind h c round e w u x = r .began (seat i h) (u .share) x
-  steady-kind h c (setting t) e w u x = r .set t (seat i h) x
-
-  steady-next : (h : Hub) (c : Call) → Eight (h .desk) → Undisturbed i s h c → P (seat i h) → P (seat i (next h c))
-  steady-next h c w u x = subst P (sym (seat-next h i small w c)) (steady-kind h c (kind i c) refl w u x)
-
-  pub steady-after : (h : Hub) (calls : List Call) → Eight (h .desk) → Along next (Undisturbed i s) h calls → P (seat i h) → P (seat i (after h calls))
+module _ (i s : ℕ) (small : i < 8) (P : Seat → Type 0) (r : Steady (HasShare s) P) where
+  steady-after : (h : Hub) (calls : List Call) → Eight (h .desk) → Along next (Undisturbed i s) h calls → P (seat i h) → P (seat i (after h calls))
   unfolding Along afterAll
   steady-after h [] w u x = x
-  steady-after h (c ∷ calls) w u x = steady-after (next h c) calls (eight-next h c w) (u .1) (steady-next h c w (u .0) x)
+  steady-after h (c ∷ calls) w u x =
+      steady-after (next h c) calls (eight-next h c w) (u .1) (steady-next (HasShare s) P r i small h c w (u .0 .not-loaded) (u .0 .share) x)
 
 -- ---- how far a sector is
 
 -- its job stands at n or later
-pub record Grown (n : ℕ) (a : Seat) : Type 0 where
-  pub from : n ≤ a .job .turn
-  pub possible : PossibleJob (a .job)
+record Grown (n : ℕ) (a : Seat) : Type 0 where
+  from : n ≤ a .job .turn
+  possible : PossibleJob (a .job)
 
 -- and with what it has left in the round it comes to n + s
 record Held (n s : ℕ) (a : Seat) : Type 0 where
@@ -81,7 +58,7 @@ held-ran n s zero request a lent x =
     record { grown = grown-ran n 0 request a lent (x .grown); reach = omega (arith, x .reach); few = omega (arith, x .few) }
 held-ran n s (suc k) request a lent x = x
 
-grown-steady : (s n : ℕ) → Steady s (Grown n)
+grown-steady : (s n : ℕ) → Steady (HasShare s) (Grown n)
 grown-steady s n = record {
   ran = λ k request a lent x. grown-ran n k request a lent x;
   began = λ a e x. record { from = x .from; possible = x .possible };
@@ -91,7 +68,7 @@ grown-steady s n = record {
 held-begun : (n s : ℕ) (a : Seat) → a .share ≡ s → Grown n a → Held n s (refilled a)
 held-begun n s a e x = record { grown = record { from = x .from; possible = x .possible }; reach = omega (arith, e, x .from); few = omega (arith, e) }
 
-held-steady : (s n : ℕ) → Steady s (Held n s)
+held-steady : (s n : ℕ) → Steady (HasShare s) (Held n s)
 held-steady s n = record {
   ran = λ k request a lent x. held-ran n s k request a lent x;
   began = λ a e x. held-begun n s a e (x .grown);
@@ -135,7 +112,7 @@ module _ (i s : ℕ) (small : i < 8) where
       let w″ = eight-after b (p .before) w′ in
       let v : Along next (Undisturbed i s) b (p .before ++ c ∷ p .rest) = subst (Along next (Undisturbed i s) b) (p .is) (u .1) in
       let v′ : Along next (Undisturbed i s) m (c ∷ p .rest) = along-rest next (Undisturbed i s) b (p .before) (c ∷ p .rest) v in
-      let begun : Held n s (seat i b) = subst (Held n s) (sym (seat-next h i small w begin)) (held-begun n s (seat i h) (u .0 .share) x) in
+      let begun : Held n s (seat i b) = subst (Held n s) (sym (seat-next h i small w begin)) (held-begun n s (seat i h) (u .0 .share refl) x) in
       let held : Held n s (seat i m) =
       steady-after i s small (Held n s) (held-steady s n) b (p .before) w′ (along-first next (Undisturbed i s) b (p .before) (c ∷ p .rest) v) begun in
       let asked : Grown (min (n + s) 120) (seat i (next m c)) =
@@ -157,8 +134,8 @@ module _ (i s : ℕ) (small : i < 8) where
       subst (λ (g : Hub). Grown (min (n + suc (length rounds) * s) 120) (seat i g)) (sym (after-append next b calls (inRounds rounds))) f
 
 -- as many rounds as 120 divided by s, rounded up, have 120 turns or more
-enough : (s m : ℕ) → 0 < s → roundedUp 120 s ≤ m → 120 ≤ m * s
-enough s m h e =
+rounds-suffice : (s m : ℕ) → 0 < s → roundedUp 120 s ≤ m → 120 ≤ m * s
+rounds-suffice s m h e =
     let q = div-add-mod' (120 + s - 1) s in
     let r = mod-lt (120 + s - 1) h in
     let t = mul-le-mul-right s e in
@@ -185,7 +162,7 @@ finishes-in-time i s areas before rec lent rest rounds small positive loaded u r
     let x : Grown 0 (seat i g) = subst (Grown 0) (sym (own-next h i small w c (own-kind i))) (loaded-grown (seat i h) rec lent (loadNumber (seat i h) rec lent) (sym n ∙ loaded)) in
     let y = steady-after i s small (Grown 0) (grown-steady s 0) g rest w′ (along-first next (Undisturbed i s) g rest (inRounds rounds) v) x in
     let z = all-rounds i s small 0 (after g rest) rounds (eight-after g rest w′) (along-rest next (Undisturbed i s) g rest (inRounds rounds) v) r y in
-    let f = enough s (length rounds) positive e in
+    let f = rounds-suffice s (length rounds) positive e in
     ap (λ (k : Hub). jobAt (k .desk) i .turn) (after-append next g rest (inRounds rounds)) ∙ done (z .from) (z .possible .turn) f
   where
     done : {m j : ℕ} → min (0 + m) 120 ≤ j → j ≤ 120 → 120 ≤ m → j ≡ 120

@@ -6,7 +6,7 @@ use borrow.Author.Tests.{ne-eqb, lt-ltb, le-ltb}
 use Rattle.lists.specs.Histories.{afterAll, Place}
 use Rattle.desk.specs.Shares.{totalOf}
 use Rattle.desk_laws.specs.Calls.{Call, Hub, new, Answer, answer, next, after, Kind, own, other, round, setting, ownOr, kind}
-use Rattle.desk_laws.specs.Isolation.{Seen, mine, begins, given, seenAt, view, told, answers, Isolation, WithoutOthers, OthersUnseen}
+use Rattle.desk_laws.specs.Isolation.{Seen, mine, begins, given, seenAt, view, told, answers, Isolation, WithoutOthers, OthersUnseen, OwnShareSeen}
 use Rattle.desk_laws.proofs.Seats.{Seat, seat, Eight, ownNext, ownAnswer, own-answer, refilled, sharing, step, seat-next, eight-next, eight-new}
 use Rattle.desk_laws.proofs.Alone.{aloneOf}
 
@@ -97,5 +97,7 @@ others-unseen i j d =
       fetch = λ buffer lent. e;
       heard = e;
       refused = λ shares eight above. rw (lt-ltb 120 (totalOf shares) above);
-      accepted = λ shares eight fits. rw (le-ltb 120 (totalOf shares) fits);
     }
+
+pub own-share-seen : OwnShareSeen
+own-share-seen i shares eight fits = rw (le-ltb 120 (totalOf shares) fits)

@@ -4,6 +4,7 @@ pub mod Refusals
 pub mod Alone
 pub mod Isolation
 pub mod Rounds
+pub mod Steady
 pub mod Unloaded
 pub mod Sectors
 pub mod Finish

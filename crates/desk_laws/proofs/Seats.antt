@@ -127,14 +127,14 @@ left-same area (another m) = refl
 
 -- ---- which calls are the sector's
 
-pub own-is : (i j : ℕ) → ownOr i j ≡ own → j ≡ i
+own-is : (i j : ℕ) → ownOr i j ≡ own → j ≡ i
 own-is i j = pick (eqb j i) (eqb-true j i)
   where
     pick : (b : Bool) → (b ≡ true → j ≡ i) → cond b own other ≡ own → j ≡ i
     pick true f e = f refl
     pick false f e = absurd (let z : _≡_ {A = ℕ} 0 1 = cc in omega arith)
 
-pub own-if : (i j : ℕ) → j ≡ i → ownOr i j ≡ own
+own-if : (i j : ℕ) → j ≡ i → ownOr i j ≡ own
 own-if i j e = rw (eq-eqb j i e)
 
 pub own-kind : (i : ℕ) → ownOr i i ≡ own
@@ -251,15 +251,15 @@ module _ (h : Hub) (i : ℕ) (small : i < 8) (w : Eight (h .desk)) where
 -- ---- the calls of others leave the sector as it is
 
 module _ (h : Hub) (i j : ℕ) (d : i ≡ j → ⊥) where
-  load-passes : (rec : List ℕ) (lent : Lent) (n : ℕ) → seat i (loadHub h j rec lent n) ≡ seat i h
+  load-by-other : (rec : List ℕ) (lent : Lent) (n : ℕ) → seat i (loadHub h j rec lent n) ≡ seat i h
   unfolding deskLoadBy
-  load-passes rec lent zero = rw (getD-set-other (h .desk .jobs) j i _ noJob d, getD-set-other (h .desk .heard) j i _ 0 d, put-other (h .area) i j _ d)
-  load-passes rec lent (suc n) = rw (put-other (h .area) i j _ d)
+  load-by-other rec lent zero = rw (getD-set-other (h .desk .jobs) j i _ noJob d, getD-set-other (h .desk .heard) j i _ 0 d, put-other (h .area) i j _ d)
+  load-by-other rec lent (suc n) = rw (put-other (h .area) i j _ d)
 
-  run-passes : (request : ℕ) (lent : Lent) (n : ℕ) → seat i (runHub h j request lent n) ≡ seat i h
+  run-by-other : (request : ℕ) (lent : Lent) (n : ℕ) → seat i (runHub h j request lent n) ≡ seat i h
   unfolding deskRunBy deskRunDone
-  run-passes request lent zero = rw (getD-set-other (h .desk .jobs) j i _ noJob d, getD-set-other (h .desk .left) j i _ 0 d, put-other (h .area) i j _ d)
-  run-passes request lent (suc n) = rw (put-other (h .area) i j _ d)
+  run-by-other request lent zero = rw (getD-set-other (h .desk .jobs) j i _ noJob d, getD-set-other (h .desk .left) j i _ 0 d, put-other (h .area) i j _ d)
+  run-by-other request lent (suc n) = rw (put-other (h .area) i j _ d)
 
 -- ---- a round begins, or the sector is given a share
 
@@ -298,10 +298,10 @@ module _ (h : Hub) (i : ℕ) (small : i < 8) (w : Eight (h .desk)) where
   unfolding next deskLoadOf deskRunOf deskFetchOf deskFetchBy deskHeardOf beginOf setSharesOf
   seat-next (load j rec lent) =
       own-or (load j rec lent) j (λ e. own-next h i small w (load j rec lent) (own-if i j e))
-      (λ d. load-passes h i j d rec lent (deskLoadRefusal j rec (lentWords (h .area j) lent)))
+      (λ d. load-by-other h i j d rec lent (deskLoadRefusal j rec (lentWords (h .area j) lent)))
   seat-next (run j request lent) =
       own-or (run j request lent) j (λ e. own-next h i small w (run j request lent) (own-if i j e))
-      (λ d. run-passes h i j d request lent (deskRunRefusal (h .desk) j request (lentWords (h .area j) lent)))
+      (λ d. run-by-other h i j d request lent (deskRunRefusal (h .desk) j request (lentWords (h .area j) lent)))
   seat-next (fetch j buffer lent) = own-or (fetch j buffer lent) j (λ e. refl) (λ d. refl)
   seat-next (heard j) =
       let z = ap (λ (d : Desk). seat i (record { desk = d; area = h .area })) (heard-desk (sectorTest j) (h .desk) j) in

@@ -149,10 +149,10 @@ module _ (i s : ℕ) (small : i < 8) (positive : 0 < s) (others : List Call) (no
     unfolding Along afterAll
     went = record {
       undisturbed = (
-        record { share = x .share; not-loaded = λ o t. absurd t },
+        record { share = λ e. x .share; not-loaded = λ o t. absurd t },
         along-append next (Undisturbed i s) begun others (run i s its ∷ [])
-            (by-others (Undisturbed i s) (λ g c o e. record { share = ap (λ (a : Seat). a .share) e ∙ x .share; not-loaded = λ z. never-own o z }) .0)
-            (record { share = ap (λ (a : Seat). a .share) stays ∙ x .share; not-loaded = λ o t. absurd t }, tt),
+            (by-others (Undisturbed i s) (λ g c o e. record { share = λ z. ap (λ (a : Seat). a .share) e ∙ x .share; not-loaded = λ z. never-own o z }) .0)
+            (record { share = λ z. ap (λ (a : Seat). a .share) stays ∙ x .share; not-loaded = λ o t. absurd t }, tt),
       );
       lent = (
         λ o z. tt,

@@ -1,5 +1,5 @@
 -- A sector never loaded has the job (120, 0) and heard byte 0, and what its calls answer follows from that. Assumes nothing.
-use mathlib.Core.Path.{_≡_, refl, sym, ap, _∙_, subst}
+use mathlib.Core.Path.{_≡_, refl, sym, ap, _∙_}
 use mathlib.Core.List.{List, [], append-nil}
 use Prim.Native.Nat.{ℕ, zero, suc, _<_}
 use native.Mathlib.Omega.{arith}
@@ -17,10 +17,11 @@ use Rattle.engine.specs.Fetch.{fetchRefusal}
 use Rattle.engine.proofs.Taken.{none-taken}
 use Rattle.desk.proofs.Accepted.{finished-passes}
 use Rattle.desk.specs.Desk.{unloadedJob}
-use Rattle.desk_laws.specs.Calls.{Lent, Call, load, run, fetch, heard, begin, setShares, Hub, new, lentWords, Answer, answer, next, after, Accepted, Kind, own, other, round, setting, kind}
-use Rattle.desk_laws.specs.Unloaded.{IsLoad, NoLoad, EachNoLoad, ranNothing, NeverLoaded}
+use Rattle.desk_laws.specs.Calls.{Lent, Call, run, fetch, heard, Hub, new, lentWords, answer, next, after, own, kind}
+use Rattle.desk_laws.specs.Unloaded.{NoLoad, EachNoLoad, ranNothing, NeverLoaded}
 use Rattle.desk_laws.specs.Sectors.{ranAnswer}
-use Rattle.desk_laws.proofs.Seats.{Seat, seat, Eight, loadSeat, runSeat, loadNumber, runNumber, fetchNumber, seatGrant, ownNext, loadAnswer, runAnswer, fetchAnswer, ownAnswer, own-kind, own-answer, step, seat-next, eight-next, eight-new}
+use Rattle.desk_laws.proofs.Seats.{Seat, seat, Eight, runSeat, runNumber, fetchNumber, seatGrant, runAnswer, fetchAnswer, ownAnswer, own-kind, own-answer, eight-next, eight-new}
+use Rattle.desk_laws.proofs.Steady.{Steady, steady-next}
 
 record Empty (a : Seat) : Type 0 where
   job : a .job ≡ unloadedJob
@@ -32,26 +33,25 @@ no-grant a request e = let z : a .job .turn ≡ 120 = ap (λ (j : Job). j .turn)
 
 -- ---- its calls keep it so
 
-load-empty : (a : Seat) (rec : List ℕ) (lent : Lent) (n : ℕ) → (loadAnswer n rec (lentWords (a .area) lent) .number ≡ 0 → ⊥) → Empty a → Empty (loadSeat n a rec lent)
-load-empty a rec lent zero f e = absurd (f refl)
-load-empty a rec lent (suc n) f e = e
-
-run-empty : (a : Seat) (request : ℕ) (lent : Lent) (n : ℕ) → Empty a → Empty (runSeat n a (seatGrant a request) lent)
-run-empty a request lent zero e =
+ran-empty : (n request : ℕ) (a : Seat) (lent : Lent) → Empty a → Empty (runSeat n a (seatGrant a request) lent)
+ran-empty zero request a lent e =
     let l = lentWords (a .area) lent in
     record {
       job = ap (λ (k : ℕ). runDone (a .job) k l .reply .job) (no-grant a request (e .job)) ∙ ap (λ (o : RunOutcome). o .reply .job) (none-taken (a .job) l) ∙ e .job;
       heard = e .heard;
     }
-run-empty a request lent (suc n) e = e
+ran-empty (suc n) request a lent e = e
 
-own-empty : (a : Seat) (c : Call) → (IsLoad c → ownAnswer a c .number ≡ 0 → ⊥) → Empty a → Empty (ownNext a c)
-own-empty a (load j rec lent) f e = load-empty a rec lent (loadNumber a rec lent) (f tt) e
-own-empty a (run j request lent) f e = run-empty a request lent (runNumber a request lent) e
-own-empty a (fetch j buffer lent) f e = e
-own-empty a (heard j) f e = e
-own-empty a begin f e = e
-own-empty a (setShares shares eight) f e = e
+-- whatever its share
+abbrev Any : Seat → Type 0
+Any a = Unit {0}
+
+empty-steady : Steady Any Empty
+empty-steady = record {
+  ran = ran-empty;
+  began = λ a q e. record { job = e .job; heard = e .heard };
+  set = λ s a e. record { job = e .job; heard = e .heard };
+}
 
 -- on a desk of eight
 record Stands (i : ℕ) (h : Hub) : Type 0 where
@@ -59,16 +59,9 @@ record Stands (i : ℕ) (h : Hub) : Type 0 where
   empty : Empty (seat i h)
 
 module _ (i : ℕ) (small : i < 8) where
-  by-kind : (h : Hub) (c : Call) (k : Kind) → kind i c ≡ k → Eight (h .desk) → Empty (seat i h) → (k ≡ own → IsLoad c → Accepted h c → ⊥) → Empty (step k c (seat i h))
-  by-kind h c own q w e f =
-      let r = ap (λ (x : Answer). x .number) (own-answer h i small w c q) in
-      own-empty (seat i h) c (λ t z. f refl t (r ∙ z)) e
-  by-kind h c other q w e f = e
-  by-kind h c round q w e f = record { job = e .job; heard = e .heard }
-  by-kind h c (setting s) q w e f = record { job = e .job; heard = e .heard }
-
   stands-next : (h : Hub) (c : Call) → Stands i h → NoLoad i h c → Stands i (next h c)
-  stands-next h c s f = record { eight = eight-next h c (s .eight); empty = subst Empty (sym (seat-next h i small (s .eight) c)) (by-kind h c (kind i c) refl (s .eight) (s .empty) f) }
+  stands-next h c s f =
+      record { eight = eight-next h c (s .eight); empty = steady-next Any Empty empty-steady i small h c (s .eight) f (λ e. tt) (s .empty) }
 
   stands-new : (areas : ℕ → List ℤ) → Stands i (new areas)
   stands-new areas = record { eight = eight-new areas; empty = record { job = getD-replicate 8 i unloadedJob _ small; heard = getD-replicate 8 i 0 _ small } }

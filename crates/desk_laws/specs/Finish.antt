@@ -9,12 +9,12 @@ use Rattle.lists.specs.Histories.{Place, Each}
 use Rattle.schedule.specs.Schedule.{rotationCount}
 use Rattle.workspace.specs.Workspace.{workspaceWords}
 use Rattle.desk.specs.Desk.{sectorCount, jobAt, shareAt}
-use Rattle.desk_laws.specs.Calls.{Lent, Call, load, run, begin, Hub, new, lentWords, next, after, Accepted}
+use Rattle.desk_laws.specs.Calls.{Lent, Call, load, run, begin, Hub, new, lentWords, next, after, Accepted, round, kind}
 use Rattle.desk_laws.specs.Unloaded.{NoLoad}
 
--- the sector has share s where this call is made, and the call does not load it
+-- where a round begins the sector has share s, and no call loads it
 pub record Undisturbed (i s : ℕ) (h : Hub) (c : Call) : Type 0 where
-  pub share : shareAt (h .desk) i ≡ s
+  pub share : kind i c ≡ round → shareAt (h .desk) i ≡ s
   pub not-loaded : NoLoad i h c
 
 unfoldable pub EachUndisturbed : ℕ → ℕ → Hub → List Call → Type 0
@@ -28,7 +28,7 @@ pub record Requests (i s : ℕ) (h : Hub) (calls : List Call) : Type 0 where
   pub enough : s ≤ request
   pub room : workspaceWords ≤ length (lentWords (after h (place .before) .area i) lent)
 
--- rounds one after another, each given by the calls that follow its begin
+-- rounds one after another, each given by the calls that follow its begin; more rounds may begin among those, with no request asked of them
 unfoldable pub inRounds : List (List Call) → List Call
 inRounds [] = []
 inRounds (calls ∷ rounds) = begin ∷ calls ++ inRounds rounds
@@ -42,7 +42,7 @@ abbrev pub roundedUp : ℕ → ℕ → ℕ
 roundedUp n s = (n + s - 1) / s
 
 -- after any calls the sector is loaded, with any area; the rest of that round follows, and then rounds. Other calls of its own and of others may stand
--- anywhere, and so may refused ones
+-- anywhere, refused ones too, and in the rest more rounds may begin
 abbrev pub FinishesInTime : Type 0
 FinishesInTime = (i s : ℕ) (areas : ℕ → List ℤ) (before : List Call) (rec : List ℕ) (lent : Lent) (rest : List Call) (rounds : List (List Call)) → i < sectorCount → 0 < s
     → (let h = after (new areas) before in

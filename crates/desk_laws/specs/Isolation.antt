@@ -1,5 +1,5 @@
 -- Document 02, U10: a sector's grants depend on its own shares, job and requests and on when rounds begin, whatever the other seven do; and so does all
--- else that its calls are answered. Assumes nothing.
+-- else that its calls are answered, but for the desk. Assumes nothing.
 use mathlib.Core.Path.{_≡_}
 use mathlib.Core.List.{List, [], _∷_, _++_}
 use Prim.Native.Nat.{ℕ, _≤_, _<_}
@@ -55,15 +55,17 @@ abbrev pub WithoutOthers : Type 0
 WithoutOthers = (i : ℕ) (areas areas′ : ℕ → List ℤ) (before others rest : List Call) → i < sectorCount → areas i ≡ areas′ i
     → ((c : Call) → Place c others → kind i c ≡ other) → SameFor i (new areas) (new areas′) (before ++ others ++ rest) (before ++ rest)
 
--- these are no affair of sector i: each call for another sector j, with whatever it is handed, and shares above 120 in total. Of other shares the sector sees
--- its own alone
+-- these are no affair of sector i: each call for another sector j, with whatever it is handed, and shares above 120 in total
 pub record Unseen (i j : ℕ) : Type 0 where
   pub load : (rec : List ℕ) (lent : Lent) → kind i (load j rec lent) ≡ other
   pub run : (request : ℕ) (lent : Lent) → kind i (run j request lent) ≡ other
   pub fetch : (buffer : List ℕ) (lent : Lent) → kind i (fetch j buffer lent) ≡ other
   pub heard : kind i (heard j) ≡ other
   pub refused : (shares : List ℕ) (eight : length shares ≡ sectorCount) → roundTurns < totalOf shares → kind i (setShares shares eight) ≡ other
-  pub accepted : (shares : List ℕ) (eight : length shares ≡ sectorCount) → totalOf shares ≤ roundTurns → kind i (setShares shares eight) ≡ setting (getD shares i 0)
 
 abbrev pub OthersUnseen : Type 0
 OthersUnseen = (i j : ℕ) → (i ≡ j → ⊥) → Unseen i j
+
+-- of all other shares it sees its own alone
+abbrev pub OwnShareSeen : Type 0
+OwnShareSeen = (i : ℕ) (shares : List ℕ) (eight : length shares ≡ sectorCount) → totalOf shares ≤ roundTurns → kind i (setShares shares eight) ≡ setting (getD shares i 0)

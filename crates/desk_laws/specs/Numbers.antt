@@ -36,7 +36,7 @@ pub data Example : Type 0 where
   -- sector
   hearing : ℕ → ℕ → Example
   -- shares
-  setting : List ℕ → ℕ → Example
+  assigning : List ℕ → ℕ → Example
 
 -- a turn number, and turns made
 abbrev pub job : ℕ → ℕ → Job
@@ -57,7 +57,7 @@ Answers (loading sector rec words n) = deskLoadOf (deskWith (job 0 0) none) sect
 Answers (running job left others sector request words n) = deskRunOf (deskWith job (counts sector left others)) sector request (replicate words (pos 0)) .reply .number ≡ n
 Answers (fetching job sector words word bytes n) = deskFetchOf (deskWith job none) sector (replicate words (pos word)) (replicate bytes 0) .reply .number ≡ n
 Answers (hearing sector n) = deskHeardOf (deskWith (job 0 0) none) sector .number ≡ n
-Answers (setting shares n) = setSharesOf (deskWith (job 0 0) none) shares .number ≡ n
+Answers (assigning shares n) = setSharesOf (deskWith (job 0 0) none) shares .number ≡ n
 
 abbrev pub AllAnswer : List Example → Type 0
 AllAnswer [] = Unit {0}
@@ -101,14 +101,14 @@ examples =
     ∷ hearing 4294967295 12
     ∷ hearing 7 0
     -- ---- 14: "shares above 120 in total"; their sum is exact, also where it is a small number in 16 bits
-    ∷ setting (replicate 8 15) 0
-    ∷ setting (120 ∷ replicate 7 0) 0
-    ∷ setting (replicate 8 0) 0
-    ∷ setting (16 ∷ replicate 7 15) 14
-    ∷ setting (replicate 7 15 ++ 16 ∷ []) 14
-    ∷ setting (121 ∷ replicate 7 0) 14
-    ∷ setting (replicate 8 8192) 14
-    ∷ setting (replicate 8 65535) 14
+    ∷ assigning (replicate 8 15) 0
+    ∷ assigning (120 ∷ replicate 7 0) 0
+    ∷ assigning (replicate 8 0) 0
+    ∷ assigning (16 ∷ replicate 7 15) 14
+    ∷ assigning (replicate 7 15 ++ 16 ∷ []) 14
+    ∷ assigning (121 ∷ replicate 7 0) 14
+    ∷ assigning (replicate 8 8192) 14
+    ∷ assigning (replicate 8 65535) 14
     ∷ []
 
 pub desk-numbered : AllAnswer examples

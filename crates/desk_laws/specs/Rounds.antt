@@ -1,4 +1,4 @@
--- Document 02, U10: what a sector has of a round, and a round of 120 turns for all. Assumes nothing.
+-- Document 02, U10: what a sector has of a round, and that all of them together have at most 120 turns. Assumes nothing.
 use mathlib.Core.Path.{_≡_}
 use mathlib.Core.List.{List, [], _∷_}
 use Prim.Native.Nat.{ℕ, _+_, _≤_, _<_}

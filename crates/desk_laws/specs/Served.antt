@@ -59,7 +59,7 @@ abbrev pub NoRoundFewer : Type 0
 NoRoundFewer = (i : ℕ) (areas : ℕ → List ℤ) (l : Load) (others : List Call) → i < sectorCount → l .lent ≡ areas i
     → ((c : Call) → Place c others → kind i c ≡ other) → Sharp i areas l others
 
--- ---- a sector whose only Load is refused, and that makes every other call
+-- ---- a sector whose only Load is refused, and that makes each other call of its own
 abbrev pub unserved : ℕ → ℕ → List ℕ → List Call
 unserved i request buffer = load i [] its ∷ run i request its ∷ begin ∷ fetch i buffer its ∷ heard i ∷ []
 

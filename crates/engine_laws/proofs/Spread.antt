@@ -10,10 +10,11 @@ use Rattle.lists.specs.Lists.{sumOf}
 use Rattle.rotation.specs.declared.Saturations.{Saturations}
 use Rattle.rotation.specs.Saturations.{added}
 use Rattle.workspace.specs.Rotations.{wordsAfter, turnsMade}
-use Rattle.workspace.proofs.WordsAfter.{words-length, words-more, saturations-more, turns-made-more, turns-made-le}
+use Rattle.workspace.proofs.WordsAfter.{words-length, words-more, saturations-more, turns-made-more}
 use Rattle.engine.specs.declared.job.Job.{Job}
 use Rattle.engine.specs.Run.{RunOutcome, runRefusal, nextJob, runDone, runBy, runOf}
 use Rattle.engine.proofs.Accepted.{PossibleJob, run-accepted, run-passes}
+use Rattle.engine.proofs.Taken.{possible-next}
 use Rattle.engine_laws.specs.Spread.{together, thenRun, Spread, thenRuns, SpreadList}
 
 -- the outcome of k turns of a job, by its words and counts, and how many of them are made
@@ -39,7 +40,7 @@ accepted job a b l h =
     let k : ℕ = min b (120 - (job .turn + j)) in
     let next : Job = nextJob job j l in
     let room : 512 ≤ length (wordsAfter (job .turn) j l) = omega (arith, words-length (job .turn) j l (omega arith) (s .room), s .room) in
-    let possible : PossibleJob next = record { turn = omega arith; made = omega (arith, s .possible .made, turns-made-le (job .turn) j l) } in
+    let possible : PossibleJob next = possible-next job j l (omega arith) (s .possible) in
     let pass : runRefusal next (wordsAfter (job .turn) j l) ≡ 0 = run-passes next (wordsAfter (job .turn) j l) (record { room = room; possible = possible }) in
     let e : min (a + b) (120 - job .turn) ≡ j + k = omega arith in
     rw (pass, e) (run-more job j k l)

@@ -196,7 +196,7 @@ pub const SUM_WORDS: usize = 128;
 
 /// Sectors of a hub.
 pub const SECTORS: usize = 8;
-/// Turns of a round, which the shares of all sectors make together at most.
+/// What the shares of all sectors make together at most, and so the turns of a round.
 pub const ROUND_TURNS: u16 = 120;
 /// The share that each sector of a new desk has.
 pub const FIRST_SHARE: u16 = 15;
