@@ -3,7 +3,9 @@
  * others by Whole; the weights of the latter for random targets, and SNAPSHOTS random snapshots added and the sums written after
  * each, by the engine and by the versions in C. With the argument half-empty or diagonal: MATRICES such matrices by Whole. With
  * the argument single: MATRICES random matrices by Load and a Run of allowance 1 at each turn number. With the argument desk:
- * MATRICES Runs of request 0 and as many settings of shares, by the engine's desk and by that in C.
+ * MATRICES Runs of request 0 and as many settings of shares, by the engine's desk and by that in C. With the argument loaded:
+ * MATRICES hand-ins that are loaded, and as many Fetches while none waits, by both desks; with the argument waiting: as many
+ * hand-ins that wait, and Fetches that bring one in.
  */
 #include "covariance.h"
 #include "desk.h"
@@ -169,6 +171,53 @@ static int at_desks(void)
     return 1;
 }
 
+/* A matrix record with (32767, 0) on the diagonal and random real parts above it: what is loaded from it is a finished R. */
+static void draw_finished(uint8_t *record)
+{
+    uint8_t parts[2];
+    make_diagonal(record);
+    for (int n = 0; n < HUBQR_ANTENNAS * HUBQR_ANTENNAS; n++) {
+        draw(parts, sizeof parts);
+        if (n % HUBQR_ANTENNAS > n / HUBQR_ANTENNAS) {
+            memcpy(record + 1 + 4 * n, parts, sizeof parts);
+        }
+    }
+}
+
+/*
+ * Answers whether both desks accept hand-ins and Fetches of finished jobs and answer the same desk, with a matrix that waits in all of
+ * them or in none. What is loaded is a finished R, so that the next Fetch accepts it.
+ */
+static int at_hand_in(int waiting)
+{
+    struct hubqr_desk desk = hubqr_desk_new();
+    uint8_t record[HUBQR_MATRIX_RECORD_BYTES];
+    memset(area, 0, sizeof area);
+    for (uint32_t k = 0; k < MATRICES; k++) {
+        uint32_t sector = k % HUBQR_SECTORS;
+        draw_finished(record);
+        desk.jobs[sector] = (struct hubqr_job){waiting ? 0 : HUBQR_TURNS, 0};
+        struct hubqr_desk_load_reply by_engine =
+            hubqr_desk_hand_in(desk, sector, record, sizeof record, area, HUBQR_AREA_WORDS);
+        struct hubqr_desk_load_reply in_c =
+            NAME(desk_hand_in)(desk, sector, record, sizeof record, area, HUBQR_AREA_WORDS);
+        if (by_engine.number != HUBQR_ACCEPTED || memcmp(&by_engine.desk, &in_c.desk, sizeof desk) != 0) {
+            return 0;
+        }
+        desk = by_engine.desk;
+        desk.jobs[sector] = (struct hubqr_job){HUBQR_TURNS, 0};
+        struct hubqr_desk_reply fetched =
+            hubqr_desk_fetch(desk, sector, area, HUBQR_AREA_WORDS, buffer, sizeof buffer);
+        struct hubqr_desk_reply fetched_in_c =
+            NAME(desk_fetch)(desk, sector, area, HUBQR_AREA_WORDS, buffer, sizeof buffer);
+        if (fetched.number != HUBQR_ACCEPTED || memcmp(&fetched.desk, &fetched_in_c.desk, sizeof desk) != 0) {
+            return 0;
+        }
+        desk = fetched.desk;
+    }
+    return 1;
+}
+
 /* Answers whether every call accepts what it is handed. */
 static int all_calls(void)
 {
@@ -200,6 +249,9 @@ static int counted(const char *argument)
     }
     if (strcmp(argument, "desk") == 0) {
         return at_desks();
+    }
+    if (strcmp(argument, "loaded") == 0 || strcmp(argument, "waiting") == 0) {
+        return at_hand_in(argument[0] == 'w');
     }
     return strcmp(argument, "diagonal") == 0 && emptier(make_diagonal);
 }

@@ -19,7 +19,7 @@ done
 cc -std=c11 -O2 -Wall -Wextra -Iinclude -DMATRICES=$matrices -DSNAPSHOTS=$snapshots -DVERSION=c \
     bench/count.c "$scratch/covariance.o" "$scratch/weights.o" "$scratch/desk.o" "$archive" -o "$scratch/count"
 # What callgrind counts of matrices of each kind, of single turns and at the desk goes into a file of that name.
-for kind in full half-empty diagonal single desk; do
+for kind in full half-empty diagonal single desk loaded waiting; do
     valgrind --quiet --tool=callgrind --callgrind-out-file="$scratch/calls" "$scratch/count" $kind
     callgrind_annotate --inclusive=yes --threshold=100 "$scratch/calls" >"$scratch/$kind"
 done
@@ -51,8 +51,9 @@ awk -v matrices=$matrices -v snapshots=$snapshots -v style="${1:-plain}" '
         gsub(",", "", $1)
         count[name] = $1 / snapshots
     }
-    match($0, /(hubqr_weights|c_weights|hubqr_desk_(run|set_shares)|c_desk_(run|set_shares))/) {
+    match($0, /(hubqr_weights|c_weights|(hubqr|c)_desk_(run|set_shares|hand_in|fetch))/) {
         name = substr($0, RSTART, RLENGTH)
+        if (name ~ /(hand_in|fetch)$/) name = name kind
         gsub(",", "", $1)
         count[name] = $1 / matrices
     }
@@ -76,5 +77,9 @@ awk -v matrices=$matrices -v snapshots=$snapshots -v style="${1:-plain}" '
         compared("Weights", count["hubqr_weights"], count["c_weights"])
         compared("Desk, request 0", count["hubqr_desk_run"], count["c_desk_run"])
         compared("Setting shares", count["hubqr_desk_set_shares"], count["c_desk_set_shares"])
+        compared("Hand-in, loaded", count["hubqr_desk_hand_in, loaded"], count["c_desk_hand_in, loaded"])
+        compared("Hand-in, waits", count["hubqr_desk_hand_in, waiting"], count["c_desk_hand_in, waiting"])
+        compared("Desk, Fetch", count["hubqr_desk_fetch, loaded"], count["c_desk_fetch, loaded"])
+        compared("Fetch, brings in", count["hubqr_desk_fetch, waiting"], count["c_desk_fetch, waiting"])
     }' "$scratch/full" kind=', half-empty' "$scratch/half-empty" kind=', diagonal' "$scratch/diagonal" \
-    kind=', single' "$scratch/single" kind=', desk' "$scratch/desk"
+    kind=', single' "$scratch/single" kind=', desk' "$scratch/desk" kind=', loaded' "$scratch/loaded" kind=', waiting' "$scratch/waiting"

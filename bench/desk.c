@@ -1,4 +1,4 @@
-/* Rounds, shares and a sector's Run as the request words them, with all their tests: first the tests, then the work. */
+/* Rounds, shares and a sector's calls as the requests word them, with all their tests: first the tests, then the work. */
 #include "desk.h"
 
 #include <string.h>
@@ -22,7 +22,62 @@ struct hubqr_desk_reply NAME(desk_set_shares)(struct hubqr_desk desk, struct hub
     return (struct hubqr_desk_reply){desk, HUBQR_ACCEPTED};
 }
 
-static uint8_t refusal(const struct hubqr_desk *desk, uint32_t sector, uint16_t request, size_t area_len)
+static int any_heard(const uint8_t *record)
+{
+    for (int k = 0; k < 8; k++) {
+        const uint8_t *diagonal = record + 1 + 4 * (8 * k + k);
+        if ((int16_t)(diagonal[0] << 8 | diagonal[1]) > HUBQR_HEARD_ABOVE) {
+            return 1;
+        }
+    }
+    return 0;
+}
+
+static uint8_t hand_in_refusal(uint32_t sector, const uint8_t *record, size_t record_len, size_t area_len)
+{
+    if (sector >= HUBQR_SECTORS) {
+        return HUBQR_NO_SUCH_SECTOR;
+    }
+    if (record_len == 0 || record[0] != HUBQR_KIND_MATRIX) {
+        return HUBQR_WRONG_KIND;
+    }
+    if (record_len != HUBQR_MATRIX_RECORD_BYTES) {
+        return HUBQR_WRONG_LENGTH;
+    }
+    if (area_len < HUBQR_AREA_WORDS) {
+        return HUBQR_AREA_TOO_SHORT;
+    }
+    return any_heard(record) ? HUBQR_ACCEPTED : HUBQR_NONE_HEARD;
+}
+
+/* Loads a record that passed the tests. */
+static void seat(struct hubqr_desk *desk, uint32_t sector, const uint8_t *record, int32_t *area, size_t area_len)
+{
+    struct hubqr_load_reply loaded = hubqr_load(record, HUBQR_MATRIX_RECORD_BYTES, area, area_len);
+    desk->jobs[sector] = loaded.job;
+    desk->heard[sector] = loaded.heard;
+    desk->waits[sector] = 0;
+}
+
+struct hubqr_desk_load_reply NAME(desk_hand_in)(struct hubqr_desk desk, uint32_t sector, const uint8_t *record,
+                                                size_t record_len, int32_t *area, size_t area_len)
+{
+    struct hubqr_desk_load_reply reply = {desk, hand_in_refusal(sector, record, record_len, area_len), 0, {0, 0}};
+    if (reply.number != HUBQR_ACCEPTED) {
+        return reply;
+    }
+    if (desk.waits[sector] != 0 || desk.jobs[sector].turn < HUBQR_TURNS) {
+        reply.desk.waits[sector] = 1;
+        memcpy(reply.desk.records + HUBQR_MATRIX_RECORD_BYTES * sector, record, HUBQR_MATRIX_RECORD_BYTES);
+    } else {
+        seat(&reply.desk, sector, record, area, area_len);
+    }
+    reply.heard = reply.desk.heard[sector];
+    reply.job = reply.desk.jobs[sector];
+    return reply;
+}
+
+static uint8_t run_refusal(const struct hubqr_desk *desk, uint32_t sector, uint16_t request, size_t area_len)
 {
     if (sector >= HUBQR_SECTORS) {
         return HUBQR_NO_SUCH_SECTOR;
@@ -41,7 +96,7 @@ static uint8_t refusal(const struct hubqr_desk *desk, uint32_t sector, uint16_t 
 struct hubqr_desk_run_reply NAME(desk_run)(struct hubqr_desk desk, uint32_t sector, uint16_t request, int32_t *area,
                                            size_t area_len)
 {
-    struct hubqr_desk_run_reply reply = {desk, refusal(&desk, sector, request, area_len), {0, 0}, 0, 0, 0};
+    struct hubqr_desk_run_reply reply = {desk, run_refusal(&desk, sector, request, area_len), {0, 0}, 0, 0, 0};
     if (reply.number != HUBQR_ACCEPTED) {
         return reply;
     }
@@ -53,5 +108,19 @@ struct hubqr_desk_run_reply NAME(desk_run)(struct hubqr_desk desk, uint32_t sect
     reply.count = ran.count;
     reply.clamps_r = ran.clamps_r;
     reply.clamps_q = ran.clamps_q;
+    return reply;
+}
+
+struct hubqr_desk_reply NAME(desk_fetch)(struct hubqr_desk desk, uint32_t sector, int32_t *area, size_t area_len,
+                                         uint8_t *buffer, size_t buffer_len)
+{
+    struct hubqr_desk_reply reply = {desk, HUBQR_NO_SUCH_SECTOR};
+    if (sector >= HUBQR_SECTORS) {
+        return reply;
+    }
+    reply.number = hubqr_fetch(desk.jobs[sector], area, area_len, buffer, buffer_len);
+    if (reply.number == HUBQR_ACCEPTED && desk.waits[sector] != 0) {
+        seat(&reply.desk, sector, desk.records + HUBQR_MATRIX_RECORD_BYTES * sector, area, area_len);
+    }
     return reply;
 }

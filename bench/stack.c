@@ -67,16 +67,23 @@ CALL(weights, reply.weights = hubqr_weights(result, sizeof result, samples), rep
 CALL(desk_new, desk = hubqr_desk_new(), HUBQR_ACCEPTED)
 CALL(desk_set_shares, reply.desk = hubqr_desk_set_shares(desk, shares), reply.desk.number)
 CALL(desk_begin, reply.desk = hubqr_desk_begin(reply.desk.desk), reply.desk.number)
-CALL(desk_load, reply.desk_load = hubqr_desk_load(reply.desk.desk, 7, record, sizeof record, area, HUBQR_AREA_WORDS),
+CALL(desk_load,
+     reply.desk_load = hubqr_desk_hand_in(reply.desk.desk, 7, record, sizeof record, area, HUBQR_AREA_WORDS),
+     reply.desk_load.number)
+CALL(desk_wait,
+     reply.desk_load = hubqr_desk_hand_in(reply.desk_load.desk, 7, record, sizeof record, area, HUBQR_AREA_WORDS),
      reply.desk_load.number)
 CALL(desk_run, reply.desk_run = hubqr_desk_run(reply.desk_load.desk, 7, HUBQR_TURNS, area, HUBQR_AREA_WORDS),
      reply.desk_run.number)
 CALL(desk_fetch,
+     reply.desk = hubqr_desk_fetch(reply.desk_run.desk, 6, area, HUBQR_AREA_WORDS, result, sizeof result),
+     reply.desk.number)
+CALL(desk_next,
      reply.desk = hubqr_desk_fetch(reply.desk_run.desk, 7, area, HUBQR_AREA_WORDS, result, sizeof result),
      reply.desk.number)
 CALL(desk_heard, reply.desk_heard = hubqr_desk_heard(desk, 7), reply.desk_heard.number)
 
-/* Each call, in a sequence in which it is accepted. */
+/* Each call, in a sequence in which it is accepted. Of the two sectors that fetch a result from the area one has none waiting. */
 static const struct {
     const char *name;
     void (*call)(void);
@@ -93,9 +100,11 @@ static const struct {
     {"A new desk", desk_new},
     {"Setting shares", desk_set_shares},
     {"Beginning a round", desk_begin},
-    {"Load at the desk", desk_load},
+    {"Hand-in, loaded", desk_load},
+    {"Hand-in, waits", desk_wait},
     {"Run at the desk", desk_run},
     {"Fetch at the desk", desk_fetch},
+    {"Fetch, brings in", desk_next},
     {"Heard byte at the desk", desk_heard},
 };
 

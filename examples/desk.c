@@ -1,13 +1,15 @@
 /*
- * A hub serves its eight sectors by one desk: gives each a share of a round, loads each from a record, requests turns for all of
- * them in round after round until their jobs are finished, and compares each result, byte for byte, with what Whole makes of the
- * same record. One sector requests all that it can and more, and the others are served all the same.
+ * A hub serves its eight sectors by one desk: gives each a share of a round, hands in a record for each, requests turns for all
+ * of them in round after round until their jobs are finished, and compares each result, byte for byte, with what Whole makes of
+ * the same record. One sector requests all that it can and more, and the others are served all the same. Another one has its
+ * next matrix early: it is handed in while the first is worked, waits in the desk, and is brought in when the first is fetched.
  *
  *   cc -std=c11 -Iinclude examples/desk.c build/libhubqr.a -o build/desk
  *   build/desk [RECORD...]
  *
- * The records, eight at most, are those of sectors 0, 1 and on; a sector without one is never loaded. Without an argument it
- * takes sample records, seen from the top of the repository. One of them is refused, so its sector is never loaded either.
+ * The records, eight at most, are those of sectors 0, 1 and on; a sector without one is never loaded. The last of them is also
+ * the one that comes early. Without an argument it takes sample records, seen from the top of the repository. One of them is
+ * refused, so its sector is never loaded either.
  */
 #include "hubqr.h"
 
@@ -24,20 +26,25 @@ static const struct hubqr_shares SHARES = {{35, 10, 10, 10, 10, 25, 10, 10}};
 /* The sector that requests all 120 turns of each round, twice. The others request their share. */
 enum { GREEDY = 5 };
 
+/* The sector whose next matrix is early, and the round in which it is handed in. */
+enum { EARLY = 0, EARLY_ROUND = 2 };
+
 /* The records of sectors 0 to 7 where none is named. */
 static const char *const SAMPLES[HUBQR_SECTORS] = {
     RECORDS "hermitian.bin", RECORDS "loose-plug.bin", RECORDS "extremes.bin", RECORDS "single.bin",
     RECORDS "zeros.bin",     RECORDS "hermitian.bin",  RECORDS "extremes.bin", RECORDS "loose-plug.bin",
 };
 
-/*
- * What the hub keeps for a sector beside the desk. There is room for one byte more than a record has, so that Load sees a file
- * that is too long.
- */
-struct sector {
+/* A record as it was read. There is room for one byte more than a record has, so that a hand-in sees a file that is too long. */
+struct matrix {
     const char *path;
     uint8_t record[HUBQR_MATRIX_RECORD_BYTES + 1];
     size_t length;
+};
+
+/* What the hub keeps for a sector beside the desk. */
+struct sector {
+    struct matrix matrix; /* the one that is worked */
     int32_t area[HUBQR_AREA_WORDS];
     unsigned rounds; /* those in which it was served */
 };
@@ -45,6 +52,7 @@ struct sector {
 struct hub {
     struct hubqr_desk desk;
     struct sector sectors[HUBQR_SECTORS];
+    struct matrix next; /* the one that comes early */
 };
 
 /* Says what is wrong with a file. Returns 0, which stands for failed. */
@@ -54,15 +62,15 @@ static int fault(const char *path, const char *what)
     return 0;
 }
 
-/* Reads a sector's record. Returns whether it could. */
-static int read_record(struct sector *sector)
+/* Reads a record. Returns whether it could. */
+static int read_record(struct matrix *matrix)
 {
-    FILE *file = fopen(sector->path, "rb");
+    FILE *file = fopen(matrix->path, "rb");
     if (file == NULL) {
-        return fault(sector->path, strerror(errno));
+        return fault(matrix->path, strerror(errno));
     }
-    sector->length = fread(sector->record, 1, sizeof sector->record, file);
-    int done = ferror(file) ? fault(sector->path, strerror(errno)) : 1;
+    matrix->length = fread(matrix->record, 1, sizeof matrix->record, file);
+    int done = ferror(file) ? fault(matrix->path, strerror(errno)) : 1;
     fclose(file);
     return done;
 }
@@ -88,19 +96,24 @@ static void set_shares(struct hub *hub, struct hubqr_shares shares)
     }
 }
 
-/* Loads the sectors that have a record. A refused Load leaves its sector as it was, and the others are served all the same. */
-static void load_sectors(struct hub *hub, uint32_t count)
+/*
+ * Hands in a matrix for a sector: it is loaded or waits, and the desk tells which. A refused hand-in leaves the sector as it was,
+ * with what waits for it, and the others are served all the same.
+ */
+static void hand_in(struct hub *hub, uint32_t k, const struct matrix *matrix)
 {
-    for (uint32_t k = 0; k < count; k++) {
-        struct sector *sector = &hub->sectors[k];
-        struct hubqr_desk_load_reply loaded =
-            hubqr_desk_load_at(&hub->desk, k, sector->record, sector->length, sector->area, HUBQR_AREA_WORDS);
-        printf("sector %lu: %s: ", (unsigned long)k, sector->path);
-        if (loaded.number == HUBQR_ACCEPTED) {
-            printf("heard byte %02X\n", (unsigned)loaded.heard);
-        } else {
-            print_refusal(loaded.number);
-        }
+    struct sector *sector = &hub->sectors[k];
+    struct hubqr_desk_load_reply reply =
+        hubqr_desk_hand_in_at(&hub->desk, k, matrix->record, matrix->length, sector->area, HUBQR_AREA_WORDS);
+    printf("sector %lu: %s: ", (unsigned long)k, matrix->path);
+    if (reply.number != HUBQR_ACCEPTED) {
+        print_refusal(reply.number);
+    } else if (hub->desk.waits[k]) {
+        unsigned long turn = reply.job.turn;
+        printf("waits, heard byte %02X and turn number %lu as they stand\n", (unsigned)reply.heard, turn);
+    } else {
+        sector->matrix = *matrix;
+        printf("loaded, heard byte %02X\n", (unsigned)reply.heard);
     }
 }
 
@@ -141,46 +154,67 @@ static int all_finished(const struct hubqr_desk *desk)
     return finished;
 }
 
-/*
- * Serves rounds until all jobs are finished. The first is begun as well: the one that a new desk stands at the start of has the
- * first shares, 15 for each sector.
- */
-static void serve(struct hub *hub)
-{
-    printf("\nnumber %d: %s\n", HUBQR_COUNT_USED_UP, hubqr_refusal_words(HUBQR_COUNT_USED_UP));
-    printf("turns granted to sectors 0 to 7, and what sector %d is refused with when it requests more\n", GREEDY);
-    printf("round    0    1    2    3    4    5    6    7  refused\n");
-    for (unsigned round = 1; !all_finished(&hub->desk) && hubqr_desk_begin_at(&hub->desk) == HUBQR_ACCEPTED; round++) {
-        serve_round(hub, round);
-    }
-    printf("\n");
-}
-
 /* Whether the result that is fetched for a sector is the one that Whole makes of its record. */
 static int fetched_as_whole(struct hub *hub, uint32_t k)
 {
     static int32_t area[HUBQR_AREA_WORDS];
     static uint8_t fetched[HUBQR_RESULT_RECORD_BYTES];
     static uint8_t expected[HUBQR_RESULT_RECORD_BYTES];
-    const struct sector *sector = &hub->sectors[k];
+    struct sector *sector = &hub->sectors[k];
     uint8_t number = hubqr_desk_fetch_at(&hub->desk, k, sector->area, HUBQR_AREA_WORDS, fetched, sizeof fetched);
     struct hubqr_whole_reply whole =
-        hubqr_whole(sector->record, sector->length, area, HUBQR_AREA_WORDS, expected, sizeof expected);
+        hubqr_whole(sector->matrix.record, sector->matrix.length, area, HUBQR_AREA_WORDS, expected, sizeof expected);
     return number == HUBQR_ACCEPTED && whole.number == HUBQR_ACCEPTED && memcmp(fetched, expected, sizeof expected) == 0;
 }
 
 /*
  * Prints what became of a sector that was loaded. Returns whether its result is right, and took no more rounds than 120 divided
- * by its share, rounded up.
+ * by its share, rounded up. Its heard byte and job are looked at before Fetch, which may bring in the next matrix.
  */
 static int print_result(struct hub *hub, uint32_t k)
 {
     unsigned rounds = hub->sectors[k].rounds, share = hub->desk.shares[k], most = (HUBQR_TURNS + share - 1) / share;
-    int same = fetched_as_whole(hub, k);
     printf("heard byte %02X, %lu turns made, ", (unsigned)hub->desk.heard[k], (unsigned long)hub->desk.jobs[k].made);
     printf("share %u, finished in %u rounds of at most %u, ", share, rounds, most);
+    int same = fetched_as_whole(hub, k);
     printf("the result %s the one that Whole makes\n", same ? "is" : "is not");
     return same && rounds <= most;
+}
+
+/* Fetches the first result of the sector whose next matrix waits, once it is finished. Returns whether it is right. */
+static int fetch_early(struct hub *hub)
+{
+    struct sector *sector = &hub->sectors[EARLY];
+    if (!hub->desk.waits[EARLY] || hub->desk.jobs[EARLY].turn < HUBQR_TURNS) {
+        return 1;
+    }
+    printf("sector %d: ", EARLY);
+    int right = print_result(hub, EARLY);
+    sector->matrix = hub->next;
+    sector->rounds = 0;
+    printf("sector %d: %s: brought in, heard byte %02X\n", EARLY, hub->next.path, (unsigned)hub->desk.heard[EARLY]);
+    return right;
+}
+
+/*
+ * Serves rounds until all jobs are finished. The first is begun as well: the one that a new desk stands at the start of has the
+ * first shares, 15 for each sector. Returns whether the result that is fetched on the way is right.
+ */
+static int serve(struct hub *hub)
+{
+    int right = 1;
+    printf("\nnumber %d: %s\n", HUBQR_COUNT_USED_UP, hubqr_refusal_words(HUBQR_COUNT_USED_UP));
+    printf("turns granted to sectors 0 to 7, and what sector %d is refused with when it requests more\n", GREEDY);
+    printf("round    0    1    2    3    4    5    6    7  refused\n");
+    for (unsigned round = 1; !all_finished(&hub->desk) && hubqr_desk_begin_at(&hub->desk) == HUBQR_ACCEPTED; round++) {
+        if (round == EARLY_ROUND) {
+            hand_in(hub, EARLY, &hub->next);
+        }
+        serve_round(hub, round);
+        right = fetch_early(hub) && right;
+    }
+    printf("\n");
+    return right;
 }
 
 /*
@@ -220,18 +254,22 @@ int main(int argc, char **argv)
         fprintf(stderr, "usage: desk [RECORD...]    %d records at most\n", HUBQR_SECTORS);
         return 2;
     }
+    static struct matrix matrices[HUBQR_SECTORS];
     uint32_t count = argc > 1 ? (uint32_t)argc - 1 : HUBQR_SECTORS;
     for (uint32_t k = 0; k < count; k++) {
-        hub.sectors[k].path = argc > 1 ? argv[1 + k] : SAMPLES[k];
-        if (!read_record(&hub.sectors[k])) {
+        matrices[k].path = argc > 1 ? argv[1 + k] : SAMPLES[k];
+        if (!read_record(&matrices[k])) {
             return 1;
         }
     }
+    hub.next = matrices[count - 1];
     hub.desk = hubqr_desk_new();
     set_shares(&hub, TOO_MANY);
     set_shares(&hub, SHARES);
-    load_sectors(&hub, count);
-    serve(&hub);
+    for (uint32_t k = 0; k < count; k++) {
+        hand_in(&hub, k, &matrices[k]);
+    }
+    int fetched = serve(&hub);
     int right = print_results(&hub);
-    return written() && right ? 0 : 1;
+    return written() && fetched && right ? 0 : 1;
 }

@@ -2,24 +2,35 @@
  * SPDX-License-Identifier: Apache-2.0
  *
  * hubqr_desk.h - a desk for eight sectors: a radio hub that serves sectors 0 to 7 works the matrix of each in an area of its own,
- * and the desk grants each its share of a round's turns. hubqr.h includes this header, and what it says on replies, ownership,
- * threads, aliasing, null, lengths and versions holds here as well.
+ * and the desk grants each its share of a round's turns and keeps the matrix of each that comes early until the one before it is
+ * fetched.
+ * hubqr.h includes this header, and what it says on replies, ownership, threads, aliasing, null, lengths and versions holds here
+ * as well.
  *
  * Use
  *   Once:             hubqr_desk_new.
- *   For each matrix:  hubqr_desk_load, then hubqr_desk_run, over as many rounds as it takes, until desk.jobs[sector].turn is
+ *   For each matrix:  hubqr_desk_hand_in, then hubqr_desk_run, over as many rounds as it takes, until desk.jobs[sector].turn is
  *                     HUBQR_TURNS, then hubqr_desk_fetch. Each is for one sector and is lent the area of that sector.
+ *   If one is early:  hubqr_desk_hand_in all the same, while the one before it is worked. It waits in the desk, and the
+ *                     hubqr_desk_fetch of the one before it brings it in, so that hubqr_desk_run goes on with it.
  *   For each round:   hubqr_desk_begin, when the host has time for the turns of all shares, 120 at most.
  *   At any time:      hubqr_desk_set_shares, for shares that count from the next round on; hubqr_desk_heard, for the heard byte
  *                     of a sector.
  *   Each call is handed the desk and answers it in its reply. By pointer, hubqr_desk_begin_at, hubqr_desk_set_shares_at,
- *   hubqr_desk_load_at, hubqr_desk_run_at, hubqr_desk_fetch_at and hubqr_desk_heard_at do the same with a desk that stays where
- *   it is.
+ *   hubqr_desk_hand_in_at, hubqr_desk_run_at, hubqr_desk_fetch_at and hubqr_desk_heard_at do the same with a desk that stays
+ *   where it is.
  *
  * Words used below
  *   sector   One of the eight that a hub serves, by its number, 0 to 7. The desk holds its job and its heard byte, which hubqr.h
- *            explains, its share, and what it has left; its area is the caller's. A sector that was never loaded has the job
- *            (120, 0) and heard byte 0, as if its work were done.
+ *            explains, its share, what it has left, and the matrix that waits for it; its area is the caller's. A sector that
+ *            was never loaded has the job (120, 0) and heard byte 0, as if its work were done.
+ *   hand-in  A call of hubqr_desk_hand_in. Where the sector's job is finished and no matrix waits for it, the matrix handed in is
+ *            loaded; otherwise it waits. `waits` of the desk that is answered tells which it was.
+ *   waits    A matrix waits while the desk keeps its record. One waits for a sector at most: the next that is handed in takes its
+ *            place. A hubqr_desk_fetch that is accepted brings it in: once the result is written, the matrix that waits is loaded
+ *            into the area that the Fetch was lent, and none waits.
+ *   loaded   A sector is loaded by a hand-in that does not wait, or by a Fetch that brings one in, and in no other way. Its job
+ *            becomes (0, 0), and its heard byte that of the matrix.
  *   share    The turns that a sector has in a round: HUBQR_FIRST_SHARE, which is 15, at a new desk, and then what
  *            hubqr_desk_set_shares gives it. All shares together are at most HUBQR_ROUND_TURNS, which is 120, and may be fewer.
  *            A share may be 0: in a round that begins with it the sector is granted no turn.
@@ -32,6 +43,12 @@
  *            has left, which is 120 less its turn number. Clear turns are skipped, as hubqr_run does, and count like any other.
  *            The sector's own remaining count pays what was granted, and no other sector's does.
  *
+ * Which result is fetched, and which is lost
+ *   While a matrix waits, Run and Fetch go on with the earlier one. A job that is unfinished cannot be dropped: a host that wants
+ *   the new matrix at once runs the old one to its end and fetches it, or begins with a new desk, which is one for all sectors.
+ *   A finished result is kept in the area alone. Where none waits, a hand-in is loaded over it, whether it was fetched or not:
+ *   fetch it before. Where one waits, a hand-in loses nothing but the matrix that waited, and Fetch alone brings the next one in.
+ *
  * What is proved
  *   Each call does what is said with it, whatever desk, sector, shares, area, record and buffer it is handed. Besides, let a desk
  *   come from hubqr_desk_new and each call be handed the desk that the last one answered, that of a refused call too. Let each
@@ -42,27 +59,43 @@
  *     requests, on what its calls are lent and on when rounds begin, whatever the other seven do;
  *     what a sector was granted in a round and what it has left make the share that it had when the round began, so that it is
  *     never granted more than that share, and all sectors together are never granted more than 120;
- *     a loaded sector that is not loaded again, has an unchanged share s above 0, and requests s or more, with an area of at
- *     least 512 words, in every round begun after the load, finishes within 120 divided by s such rounds, rounded up: with the
- *     share 15 within 8, with 50 within 3;
- *     each result fetched from a sector that was loaded has the bounds that hubqr.h gives, against the matrix last loaded there.
+ *     a loaded sector that is not loaded again, neither by a hand-in nor by a Fetch that brings one in, has an unchanged share s
+ *     above 0, and requests s or more, with an area of at least 512 words, in every round begun after the load, finishes within
+ *     120 divided by s such rounds, rounded up: with the share 15 within 8, with 50 within 3.
+ *   Whatever areas the calls of such a desk are lent,
+ *     a sector's heard byte changes only when it is loaded;
+ *     whatever waits for a sector has passed the tests of hubqr_load, and is the record of its last hand-in that was accepted;
+ *     where none waits, the sector's job was loaded from that one.
+ *   If each of a sector's accepted calls since it was loaded is lent the area that the load filled, and nobody else writes to it,
+ *     each result fetched from the sector has the bounds that hubqr.h gives, against the matrix that its job was loaded from;
+ *     a Fetch that is repeated writes the same bytes until the sector is loaded again.
  *
  * Keeping the desk
- *   The desk is 104 bytes of plain numbers and the caller's own. No byte of it is padding, so that memcmp tells whether two desks
- *   are the same. It may be copied and kept anywhere; a stored desk belongs to the version that made it. Calls for one desk go
- *   one after the other, whatever their sectors, since each needs the desk that the last one answered. An older desk is not
- *   noticed: its counts grant turns a second time, and its jobs no longer fit their areas.
+ *   The desk is 2,168 bytes of plain numbers and the caller's own. No byte of it is padding, so that memcmp tells whether two
+ *   desks are the same. It may be copied and kept anywhere; a stored desk belongs to the version that made it. Calls for one desk
+ *   go one after the other, whatever their sectors, since each needs the desk that the last one answered. An older desk is not
+ *   noticed: its counts grant turns a second time, its jobs no longer fit their areas, and a matrix that was loaded waits again.
+ *   In each call it is on the caller's stack twice, as it is handed over and in the reply, in the calls by pointer as well.
+ *   A matrix that waits is in the desk by value, so that its record need not outlast the hand-in. Its bytes stay in `records`
+ *   when it is brought in, until another matrix waits for that sector. They mean nothing then, though memcmp sees them; but
+ *   whoever keeps the desk keeps these matrices, too.
  *   No call tests the desk as a whole. Every call takes one that the caller has made up as it is, and does with it what is said
  *   below: `shares` and `left` may be up to 65,535 at each place, whatever they make in total. hubqr_desk_begin copies shares
  *   untested, since test 14 looks at nothing but the shares that hubqr_desk_set_shares is handed; a sector then has as many turns
- *   as its count says. A job that is none, such as (5, 6), is refused with 5 at hubqr_desk_run and hubqr_desk_fetch, until its
- *   sector is loaded again. What is said of a sector that was loaded, or never loaded, and of the shares in total is for desks
- *   that came from hubqr_desk_new by calls alone.
+ *   as its count says. Where `waits` is above 1, it means what 1 means; no call makes such a number. What waits is tested when
+ *   it is handed in and not again when it is brought in: of a record that was made up the parts are loaded as they stand, its
+ *   kind byte is not looked at, and the heard byte is that of its diagonal, which may be 0. A job that is none is refused with 5
+ *   at hubqr_desk_run and hubqr_desk_fetch. For a hand-in it is finished where its turn number is 120 or more, so that a sector
+ *   with the job (121, 0), for which none waits, is loaded again; (5, 6) is unfinished, and the matrix waits until the caller has
+ *   put the desk right, for instance by the job (120, 0) and `waits` 0, and has handed it in again. With the job (120, 0) alone
+ *   Fetch makes test 8 of whatever the area holds. What is said of a sector that was loaded, or never loaded, of what waits, and
+ *   of the shares in total is for desks that came from hubqr_desk_new by calls alone.
  *
  * Refusals
- *   A refused call changes nothing: it answers the desk that it was handed, and leaves the area and the buffer as they were. All
- *   other fields of its reply are 0. A refused hubqr_desk_run answers the job (0, 0) as well, unlike hubqr_run, which answers the
- *   job that it was handed: keep the desk, which has the sector's job.
+ *   A refused call changes nothing: it answers the desk that it was handed, and leaves the area and the buffer as they were. So a
+ *   matrix that waits goes on waiting when a hand-in or a Fetch is refused. All other fields of the reply are 0. A refused
+ *   hubqr_desk_run answers the job (0, 0) as well, unlike hubqr_run, which answers the job that it was handed, and so does a
+ *   refused hand-in, whatever job the sector has: keep the desk, which has the sector's job.
  *   Test 12, whether the sector is above 7, comes before all others. A sector is a number of 32 bits, so that -1, 256 and 65,536
  *   are refused and not cut to one from 0 to 7. C cuts wider types: keep sectors in 32 bits. A request and a share have 16 bits:
  *   C makes 0 of 65,536 before the call sees it, and a compiler reports that of constants alone. Such a request is accepted and
@@ -83,15 +116,22 @@
 extern "C" {
 #endif
 
-/* How far the work for all sectors is, and what each has of a round. */
+/* How far the work for all sectors is, what each has of a round, and which matrix waits for it. */
 struct hubqr_desk {
     struct hubqr_job jobs[HUBQR_SECTORS]; /* the job of sector k at place k */
     uint8_t heard[HUBQR_SECTORS];         /* the heard byte of sector k at place k */
     uint16_t shares[HUBQR_SECTORS];       /* the share of sector k at place k */
     uint16_t left[HUBQR_SECTORS];         /* the turns that sector k has left in the round at place k */
+    uint8_t waits[HUBQR_SECTORS];         /* at place k 1 when a matrix waits for sector k, 0 when none does */
+
+    /* the matrix record that waits for sector k, in the 257 bytes from place 257 * k on */
+    uint8_t records[HUBQR_SECTORS * HUBQR_MATRIX_RECORD_BYTES];
 };
 
-/* A new desk: no sector is loaded, each has the job (120, 0), heard byte 0 and a share of 15 turns, and all of them left. */
+/*
+ * A new desk: no sector is loaded, each has the job (120, 0), heard byte 0 and a share of 15 turns, and all of them left. No
+ * matrix waits, and all bytes of `records` are 0.
+ */
 struct hubqr_desk hubqr_desk_new(void) HUBQR_REPLY;
 
 /* What beginning a round, setting shares and Fetch answer. */
@@ -118,21 +158,25 @@ struct hubqr_shares {
  */
 struct hubqr_desk_reply hubqr_desk_set_shares(struct hubqr_desk desk, struct hubqr_shares shares) HUBQR_REPLY;
 
-/* What a sector's Load answers. */
+/* What a hand-in answers. */
 struct hubqr_desk_load_reply {
     struct hubqr_desk desk; /* the desk to hand to the next call; refused: the one that was handed over */
     uint8_t number;         /* HUBQR_ACCEPTED, or the refusal */
-    uint8_t heard;          /* the sector's heard byte, which is not 0; refused: 0 */
-    struct hubqr_job job;   /* the sector's job, which is (0, 0); refused: (0, 0) too, and the desk has the sector's job */
+    uint8_t heard;          /* the sector's heard byte: if the matrix waits, that of the earlier one; refused: 0 */
+    struct hubqr_job job;   /* the sector's job: (0, 0), or if the matrix waits, that of the earlier one; refused: (0, 0) */
 };
 
 /*
- * Load, for a sector: fills the area's 512 words from a matrix record, as hubqr_load does. The sector's job becomes (0, 0), even
- * if it was unfinished, and its heard byte that of the record. Its remaining count pays nothing and is not refilled.
+ * Hand-in, for a sector: tests a matrix record as hubqr_load does, and loads it or lets it wait.
+ * If the job's turn number is not under 120 and none waits: fills the area's 512 words from the record. The sector's job becomes
+ * (0, 0), and its heard byte that of the record. A result in the area that was not fetched is lost.
+ * Otherwise the desk keeps the record, in the place of one that waited. The area stays as it is, and so do the sector's job and
+ * heard byte, which are answered as they stand. An area of at least 512 words has to be lent all the same.
+ * In either case the sector's remaining count pays nothing and is not refilled.
  * Tests, in this order: 12, 1, 2, 3, 4.
  */
-struct hubqr_desk_load_reply hubqr_desk_load(struct hubqr_desk desk, uint32_t sector, const uint8_t *record, size_t record_len,
-                                             int32_t *area, size_t area_len)
+struct hubqr_desk_load_reply hubqr_desk_hand_in(struct hubqr_desk desk, uint32_t sector, const uint8_t *record,
+                                                size_t record_len, int32_t *area, size_t area_len)
     HUBQR_REPLY HUBQR_READS(3, 4) HUBQR_FILLS(5, 6);
 
 /* What a sector's Run answers. */
@@ -158,23 +202,27 @@ struct hubqr_desk_run_reply hubqr_desk_run(struct hubqr_desk desk, uint32_t sect
     HUBQR_REPLY HUBQR_CHANGES(4, 5);
 
 /*
- * Fetch, for a sector: writes the result record into the first 2,049 bytes of the buffer, as hubqr_fetch does. The area is only
- * read, and the desk stays as it is. For a sector that was never loaded, the record has the words that the area has.
+ * Fetch, for a sector: writes the result record into the first 2,049 bytes of the buffer, as hubqr_fetch does. For a sector that
+ * was never loaded, the record has the words that the area has.
+ * If a matrix waits, it is then brought in: the area's 512 words are filled from its record, the sector's job becomes (0, 0), its
+ * heard byte that of the record, and none waits. Its remaining count pays nothing and is not refilled. So look at the job and
+ * the heard byte that belong to a result before it is fetched; a second Fetch is refused with 6.
+ * If none waits, area and desk stay as they are, and Fetch may be repeated: it writes the same bytes until the next load.
  * Tests, in this order: 12, 3, 5, 6, 7, 8. Test 8 never fails for a sector that was loaded, if desk and area are as said above.
  */
-struct hubqr_desk_reply hubqr_desk_fetch(struct hubqr_desk desk, uint32_t sector, const int32_t *area, size_t area_len,
+struct hubqr_desk_reply hubqr_desk_fetch(struct hubqr_desk desk, uint32_t sector, int32_t *area, size_t area_len,
                                          uint8_t *buffer, size_t buffer_len)
-    HUBQR_REPLY HUBQR_READS(3, 4) HUBQR_FILLS(5, 6);
+    HUBQR_REPLY HUBQR_CHANGES(3, 4) HUBQR_FILLS(5, 6);
 
 /* What asking for the heard byte answers. */
 struct hubqr_desk_heard_reply {
     struct hubqr_desk desk; /* the desk that was handed over */
     uint8_t number;         /* HUBQR_ACCEPTED, or the refusal */
-    uint8_t heard;          /* the desk's heard byte of the sector: that of the matrix last loaded, 0 if none was; refused: 0 */
+    uint8_t heard;          /* the sector's heard byte: that of the matrix last loaded, 0 if none was; refused: 0 */
 };
 
 /*
- * Heard: answers a sector's heard byte. The desk stays as it is.
+ * Heard: answers a sector's heard byte. A matrix that waits has no part in it. The desk stays as it is.
  * Test: 12.
  */
 struct hubqr_desk_heard_reply hubqr_desk_heard(struct hubqr_desk desk, uint32_t sector) HUBQR_REPLY;
@@ -200,10 +248,10 @@ static inline uint8_t hubqr_desk_set_shares_at(struct hubqr_desk *desk, struct h
 }
 
 HUBQR_REPLY HUBQR_NONNULL(1) HUBQR_READS(3, 4) HUBQR_FILLS(5, 6)
-static inline struct hubqr_desk_load_reply hubqr_desk_load_at(struct hubqr_desk *desk, uint32_t sector, const uint8_t *record,
-                                                              size_t record_len, int32_t *area, size_t area_len)
+static inline struct hubqr_desk_load_reply hubqr_desk_hand_in_at(struct hubqr_desk *desk, uint32_t sector, const uint8_t *record,
+                                                                 size_t record_len, int32_t *area, size_t area_len)
 {
-    struct hubqr_desk_load_reply reply = hubqr_desk_load(*desk, sector, record, record_len, area, area_len);
+    struct hubqr_desk_load_reply reply = hubqr_desk_hand_in(*desk, sector, record, record_len, area, area_len);
     *desk = reply.desk;
     return reply;
 }
@@ -217,8 +265,8 @@ static inline struct hubqr_desk_run_reply hubqr_desk_run_at(struct hubqr_desk *d
     return reply;
 }
 
-HUBQR_REPLY HUBQR_NONNULL(1) HUBQR_READS(3, 4) HUBQR_FILLS(5, 6)
-static inline uint8_t hubqr_desk_fetch_at(struct hubqr_desk *desk, uint32_t sector, const int32_t *area, size_t area_len,
+HUBQR_REPLY HUBQR_NONNULL(1) HUBQR_CHANGES(3, 4) HUBQR_FILLS(5, 6)
+static inline uint8_t hubqr_desk_fetch_at(struct hubqr_desk *desk, uint32_t sector, int32_t *area, size_t area_len,
                                           uint8_t *buffer, size_t buffer_len)
 {
     struct hubqr_desk_reply reply = hubqr_desk_fetch(*desk, sector, area, area_len, buffer, buffer_len);

@@ -1,5 +1,7 @@
 //! What the contenders are given: fresh random input for every batch, made again from its number.
 
+use std::cmp::Ordering;
+
 use hubqr::ffi::Snapshot;
 use hubqr::Sample;
 use reference::cases::Kind;
@@ -33,6 +35,16 @@ pub fn diagonal() -> Record {
     write_matrix(&Matrix::from_fn(|i, j| match i == j {
         true => Complex::new(i16::MAX, 0),
         false => Complex::ZERO,
+    }))
+}
+
+/// The record of a matrix with positive real parts on the diagonal, any real parts above it and nothing
+/// elsewhere. What is loaded from it is a finished R, so that Fetch accepts it without a turn.
+pub fn finished(random: &mut Random) -> Record {
+    write_matrix(&Matrix::from_fn(|i, j| match i.cmp(&j) {
+        Ordering::Less => Complex::new(random.part(), 0),
+        Ordering::Equal => Complex::new(random.between(17, i16::MAX.into()) as i16, 0),
+        Ordering::Greater => Complex::ZERO,
     }))
 }
 

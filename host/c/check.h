@@ -55,6 +55,7 @@ void test_refused(void);
 void test_covariance(void);
 void test_weights(void);
 void test_desk(void);
+void test_hand_in(void);
 void test_desk_refused(void);
 
 #endif

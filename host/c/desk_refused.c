@@ -31,17 +31,17 @@ struct handed {
 /* A call for a sector that must be refused with this number. */
 typedef void call(const struct handed *h, const struct hubqr_desk *desk, uint32_t sector, uint8_t number);
 
-static void check_load(const char *what, struct hubqr_desk_load_reply reply, const struct hubqr_desk *desk, uint8_t number)
+static void check_hand_in(const char *what, struct hubqr_desk_load_reply reply, const struct hubqr_desk *desk, uint8_t number)
 {
     CHECK(what, reply.number == number && reply.heard == 0 && is_job(reply.job, 0, 0));
     CHECK(what, same_desk(&reply.desk, desk));
 }
 
-static void refuse_load(const struct handed *h, const struct hubqr_desk *desk, uint32_t sector, uint8_t number)
+static void refuse_hand_in(const struct handed *h, const struct hubqr_desk *desk, uint32_t sector, uint8_t number)
 {
     struct hubqr_desk kept = *desk;
-    check_load(h->what, hubqr_desk_load(*desk, sector, h->record, h->record_len, h->area, h->area_len), desk, number);
-    check_load(h->what, hubqr_desk_load_at(&kept, sector, h->record, h->record_len, h->area, h->area_len), desk, number);
+    check_hand_in(h->what, hubqr_desk_hand_in(*desk, sector, h->record, h->record_len, h->area, h->area_len), desk, number);
+    check_hand_in(h->what, hubqr_desk_hand_in_at(&kept, sector, h->record, h->record_len, h->area, h->area_len), desk, number);
     CHECK(h->what, same_desk(&kept, desk));
 }
 
@@ -77,15 +77,22 @@ static void refuse_heard(const struct handed *h, const struct hubqr_desk *desk, 
     CHECK(h->what, by_pointer.number == number && by_pointer.heard == 0 && same_desk(&by_pointer.desk, desk));
 }
 
-/* A desk whose sectors differ, with the job of one and what it has left as they are handed. All others have turns left. */
+/*
+ * A desk whose sectors differ, with the job of one and what it has left as they are handed. All others have turns left. A matrix
+ * waits for some, by numbers that mean the same.
+ */
 static struct hubqr_desk desk_of(const struct handed *h, uint32_t sector)
 {
+    static const uint8_t waits[HUBQR_SECTORS] = {0, 1, 2, 255, 1, 0, 128, 1};
     struct hubqr_desk desk;
     for (uint32_t k = 0; k < HUBQR_SECTORS; k++) {
         desk.jobs[k] = (struct hubqr_job){10 * k, k};
         desk.heard[k] = (uint8_t)(0xf0 + k);
         desk.shares[k] = (uint16_t)(11 + k);
         desk.left[k] = (uint16_t)(65535 - k);
+        desk.waits[k] = waits[k];
+        memcpy(desk.records + HUBQR_MATRIX_RECORD_BYTES * k, matrix, HUBQR_MATRIX_RECORD_BYTES);
+        desk.records[HUBQR_MATRIX_RECORD_BYTES * (k + 1) - 1] = (uint8_t)k;
     }
     desk.jobs[sector] = h->job;
     desk.left[sector] = h->left;
@@ -114,25 +121,26 @@ static void refuse_all(call *refuse, const struct handed *table, size_t count)
 
 #define REFUSE_ALL(call, table) refuse_all(call, table, sizeof(table) / sizeof *(table))
 
-static void test_load(void)
+static void test_hand_in_refused(void)
 {
     static const struct handed table[] = {
-        {"Load", matrix, 257, area, 512, NULL, 0, {7, 5}, 9, 0, HUBQR_ACCEPTED},
-        {"Load of a null record", NULL, 0, area, 512, NULL, 0, {7, 5}, 9, 0, HUBQR_WRONG_KIND},
-        {"Load of an empty record", matrix, 0, area, 512, NULL, 0, {0, 0}, 0, 0, HUBQR_WRONG_KIND},
-        {"Load of a result record", result, 2049, area, 512, NULL, 0, {5, 6}, 120, 0, HUBQR_WRONG_KIND},
-        {"Load of nothing into nothing", NULL, 0, NULL, 0, NULL, 0, {120, 0}, 120, 0, HUBQR_WRONG_KIND},
-        {"Load of 256 bytes", matrix, 256, area, 512, NULL, 0, {7, 5}, 9, 0, HUBQR_WRONG_LENGTH},
-        {"Load of 258 bytes", matrix, 258, area, 512, NULL, 0, {120, 120}, 0, 0, HUBQR_WRONG_LENGTH},
-        {"Load of 256 bytes of a hum into 511 words", hum, 256, area, 511, NULL, 0, {5, 6}, 0, 0, HUBQR_WRONG_LENGTH},
-        {"Load into 511 words", matrix, 257, area, 511, NULL, 0, {7, 5}, 9, 0, HUBQR_AREA_TOO_SHORT},
-        {"Load into a null area", matrix, 257, NULL, 0, NULL, 0, {120, 0}, 120, 0, HUBQR_AREA_TOO_SHORT},
-        {"Load of a hum into 511 words", hum, 257, area, 511, NULL, 0, {121, 0}, 0, 0, HUBQR_AREA_TOO_SHORT},
-        {"Load of a hum", hum, 257, area, 512, NULL, 0, {7, 5}, 9, 0, HUBQR_NONE_HEARD},
-        {"Load of a hum in place of no job", hum, 257, area, 512, NULL, 0, {5, 6}, 0, 0, HUBQR_NONE_HEARD},
+        {"Hand-in", matrix, 257, area, 512, NULL, 0, {7, 5}, 9, 0, HUBQR_ACCEPTED},
+        {"Hand-in of a null record", NULL, 0, area, 512, NULL, 0, {7, 5}, 9, 0, HUBQR_WRONG_KIND},
+        {"Hand-in of an empty record", matrix, 0, area, 512, NULL, 0, {0, 0}, 0, 0, HUBQR_WRONG_KIND},
+        {"Hand-in of a result record", result, 2049, area, 512, NULL, 0, {5, 6}, 120, 0, HUBQR_WRONG_KIND},
+        {"Hand-in of nothing with nothing", NULL, 0, NULL, 0, NULL, 0, {120, 0}, 120, 0, HUBQR_WRONG_KIND},
+        {"Hand-in of 256 bytes", matrix, 256, area, 512, NULL, 0, {7, 5}, 9, 0, HUBQR_WRONG_LENGTH},
+        {"Hand-in of 258 bytes", matrix, 258, area, 512, NULL, 0, {120, 120}, 0, 0, HUBQR_WRONG_LENGTH},
+        {"Hand-in of 256 bytes of a hum with 511 words", hum, 256, area, 511, NULL, 0, {5, 6}, 0, 0, HUBQR_WRONG_LENGTH},
+        {"Hand-in with 511 words", matrix, 257, area, 511, NULL, 0, {7, 5}, 9, 0, HUBQR_AREA_TOO_SHORT},
+        {"Hand-in with a null area", matrix, 257, NULL, 0, NULL, 0, {120, 0}, 120, 0, HUBQR_AREA_TOO_SHORT},
+        {"Hand-in of a hum with 511 words", hum, 257, area, 511, NULL, 0, {121, 0}, 0, 0, HUBQR_AREA_TOO_SHORT},
+        {"Hand-in of a hum", hum, 257, area, 512, NULL, 0, {7, 5}, 9, 0, HUBQR_NONE_HEARD},
+        {"Hand-in of a hum for a finished job", hum, 257, area, 512, NULL, 0, {120, 120}, 0, 0, HUBQR_NONE_HEARD},
+        {"Hand-in of a hum behind a job that is none", hum, 257, area, 512, NULL, 0, {5, 6}, 0, 0, HUBQR_NONE_HEARD},
     };
     scribble();
-    REFUSE_ALL(refuse_load, table);
+    REFUSE_ALL(refuse_hand_in, table);
 }
 
 static void test_run(void)
@@ -247,7 +255,7 @@ void test_desk_refused(void)
 {
     make_matrix(matrix);
     make_equal(hum, 2);
-    test_load();
+    test_hand_in_refused();
     test_run();
     test_fetch();
     test_heard_byte();

@@ -12,6 +12,7 @@ _Static_assert(HUBQR_SUM_WORDS == 2 * HUBQR_ANTENNAS * HUBQR_ANTENNAS, "a real a
 _Static_assert(HUBQR_MATRIX_RECORD_BYTES == 1 + 2 * HUBQR_SUM_WORDS, "a part of two bytes for each sum behind the kind byte");
 _Static_assert(HUBQR_ROUND_TURNS == HUBQR_TURNS, "a round has at most the turns of one matrix");
 _Static_assert(HUBQR_SECTORS * HUBQR_FIRST_SHARE == HUBQR_ROUND_TURNS, "the first shares are the whole of a round");
+_Static_assert(HUBQR_SECTORS * HUBQR_MATRIX_RECORD_BYTES == 2056, "a matrix record that waits for each sector");
 _Static_assert(HUBQR_RESULT_RECORD_BYTES == 1 + HUBQR_AREA_WORDS * 4, "the area's words behind the kind byte");
 
 /* The numbers of the refusals, in the header's order. */

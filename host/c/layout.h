@@ -58,36 +58,39 @@ SIZE(hubqr_weights_reply, 136);
 PLACE(hubqr_weights_reply, number, 0);
 PLACE(hubqr_weights_reply, weights, 8);
 
-SIZE(hubqr_desk, 104);
+SIZE(hubqr_desk, 2168);
 PLACE(hubqr_desk, jobs, 0);
 PLACE(hubqr_desk, heard, 64);
 PLACE(hubqr_desk, shares, 72);
 PLACE(hubqr_desk, left, 88);
+PLACE(hubqr_desk, waits, 104);
+PLACE(hubqr_desk, records, 112);
+static_assert(112 + sizeof(((struct hubqr_desk *)0)->records) == sizeof(struct hubqr_desk), "no byte behind the records");
 
-SIZE(hubqr_desk_reply, 108);
+SIZE(hubqr_desk_reply, 2172);
 PLACE(hubqr_desk_reply, desk, 0);
-PLACE(hubqr_desk_reply, number, 104);
+PLACE(hubqr_desk_reply, number, 2168);
 
 SIZE(hubqr_shares, 16);
 PLACE(hubqr_shares, shares, 0);
 
-SIZE(hubqr_desk_load_reply, 116);
+SIZE(hubqr_desk_load_reply, 2180);
 PLACE(hubqr_desk_load_reply, desk, 0);
-PLACE(hubqr_desk_load_reply, number, 104);
-PLACE(hubqr_desk_load_reply, heard, 105);
-PLACE(hubqr_desk_load_reply, job, 108);
+PLACE(hubqr_desk_load_reply, number, 2168);
+PLACE(hubqr_desk_load_reply, heard, 2169);
+PLACE(hubqr_desk_load_reply, job, 2172);
 
-SIZE(hubqr_desk_run_reply, 128);
+SIZE(hubqr_desk_run_reply, 2192);
 PLACE(hubqr_desk_run_reply, desk, 0);
-PLACE(hubqr_desk_run_reply, number, 104);
-PLACE(hubqr_desk_run_reply, job, 108);
-PLACE(hubqr_desk_run_reply, count, 116);
-PLACE(hubqr_desk_run_reply, clamps_r, 120);
-PLACE(hubqr_desk_run_reply, clamps_q, 124);
+PLACE(hubqr_desk_run_reply, number, 2168);
+PLACE(hubqr_desk_run_reply, job, 2172);
+PLACE(hubqr_desk_run_reply, count, 2180);
+PLACE(hubqr_desk_run_reply, clamps_r, 2184);
+PLACE(hubqr_desk_run_reply, clamps_q, 2188);
 
-SIZE(hubqr_desk_heard_reply, 108);
+SIZE(hubqr_desk_heard_reply, 2172);
 PLACE(hubqr_desk_heard_reply, desk, 0);
-PLACE(hubqr_desk_heard_reply, number, 104);
-PLACE(hubqr_desk_heard_reply, heard, 105);
+PLACE(hubqr_desk_heard_reply, number, 2168);
+PLACE(hubqr_desk_heard_reply, heard, 2169);
 
 #endif

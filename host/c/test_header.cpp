@@ -6,6 +6,7 @@
 #include <array>
 #include <cstdio>
 #include <string_view>
+#include <utility>
 
 static_assert(HUBQR_R_ONE == 32768 * 8192, "one in Q1.15, times 2^13");
 static_assert(HUBQR_Q_ONE == 1 << 30, "one in Q");
@@ -114,7 +115,7 @@ static bool served()
     record[0] = HUBQR_KIND_MATRIX;
     record[2] = HUBQR_HEARD_ABOVE + 1;
     hubqr_desk desk = hubqr_desk_new();
-    auto loaded = hubqr_desk_load(desk, 7, record.data(), record.size(), area.data(), area.size());
+    auto loaded = hubqr_desk_hand_in(desk, 7, record.data(), record.size(), area.data(), area.size());
     desk = loaded.desk;
     bool begun = loaded.number == HUBQR_ACCEPTED && loaded.heard == 1 && is_job(loaded.job, 0, 0) && desk.left[7] == 15;
     auto ran = hubqr_desk_run(desk, 7, 10, area.data(), area.size());
@@ -129,12 +130,33 @@ static bool served()
            hubqr_desk_fetch_at(&desk, 7, area.data(), area.size(), buffer.data(), 0) == HUBQR_BUFFER_TOO_SHORT;
 }
 
+// The next matrix of sector 2 is handed in when no turn of the first is made. It waits; a Fetch that is refused for its short
+// buffer brings nothing in, and it is loaded when the first is fetched. Its antenna is 1, and that of the first is 0.
+static bool early()
+{
+    auto next = record;
+    std::swap(next[2], next[2 + 4 * 9]);
+    hubqr_desk desk = hubqr_desk_new();
+    auto loaded = hubqr_desk_hand_in_at(&desk, 2, record.data(), record.size(), area.data(), area.size());
+    auto kept = hubqr_desk_hand_in(desk, 2, next.data(), next.size(), area.data(), area.size());
+    auto waits = hubqr_desk_hand_in_at(&desk, 2, next.data(), next.size(), area.data(), area.size());
+    bool waiting = loaded.desk.waits[2] == 0 && kept.desk.waits[2] == 1 && waits.heard == 1 && desk.waits[2] == 1 &&
+                   std::equal(next.begin(), next.end(), desk.records + 2 * HUBQR_MATRIX_RECORD_BYTES);
+    desk.left[2] = 120;
+    bool ran = hubqr_desk_run_at(&desk, 2, 120, area.data(), area.size()).count == 120;
+    auto cut = hubqr_desk_fetch(desk, 2, area.data(), area.size(), buffer.data(), 2048);
+    bool refused = cut.number == HUBQR_BUFFER_TOO_SHORT && cut.desk.waits[2] == 1 && cut.desk.jobs[2].turn == HUBQR_TURNS;
+    bool fetched = hubqr_desk_fetch_at(&desk, 2, area.data(), area.size(), buffer.data(), buffer.size()) == HUBQR_ACCEPTED;
+    bool brought_in = desk.waits[2] == 0 && desk.heard[2] == 2 && is_job(desk.jobs[2], 0, 0) && desk.left[2] == 0;
+    return waiting && ran && refused && fetched && brought_in && area[HUBQR_AREA_COLUMNS + 1] == 17 * 8192;
+}
+
 // The count of sector 0, which is loaded then, is used up until the next round begins; and there is no sector 256.
 static bool turned_away()
 {
     hubqr_desk desk = hubqr_desk_begin(hubqr_desk_new()).desk;
     desk.left[0] = 0;
-    auto loaded = hubqr_desk_load_at(&desk, 0, record.data(), record.size(), area.data(), area.size());
+    auto loaded = hubqr_desk_hand_in_at(&desk, 0, record.data(), record.size(), area.data(), area.size());
     auto ran = hubqr_desk_run_at(&desk, 0, 1, area.data(), area.size());
     bool used_up = ran.number == HUBQR_COUNT_USED_UP && is_job(ran.job, 0, 0) && ran.count == 0 && desk.left[0] == 0;
     bool next = hubqr_desk_begin_at(&desk) == HUBQR_ACCEPTED && desk.left[0] == HUBQR_FIRST_SHARE;
@@ -162,7 +184,7 @@ int main()
 {
     bool named = hubqr_version() == HUBQR_VERSION && hubqr_refusal_words(HUBQR_ACCEPTED) == std::string_view("accepted");
     bool calls = accepted() && in_instalments() && clamped() && refused() && covariance() && weighted();
-    bool holds = calls && served() && turned_away() && shared_out() && named;
+    bool holds = calls && served() && early() && turned_away() && shared_out() && named;
     std::puts(holds ? "hubqr C++ face: passed" : "hubqr C++ face: FAILED");
     return holds ? 0 : 1;
 }

@@ -16,6 +16,7 @@ int main(void)
     test_covariance();
     test_weights();
     test_desk();
+    test_hand_in();
     test_desk_refused();
     printf("hubqr C face: %u checks passed\n", checks_passed());
     return 0;

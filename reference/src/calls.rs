@@ -41,16 +41,30 @@ pub fn whole(record: &[u8], area: &mut [i32], buffer: &mut [u8]) -> WholeReply {
     accept_whole(record, area, buffer).unwrap_or_else(WholeReply::from)
 }
 
-pub(crate) fn accept_load(record: &[u8], area: &mut [i32]) -> Result<LoadReply, Refusal> {
+fn accept_load(record: &[u8], area: &mut [i32]) -> Result<LoadReply, Refusal> {
+    let (matrix, area) = test_load(record, area)?;
+    Ok(fill(&matrix, area))
+}
+
+/// Load's tests, the matrix of the record, and the words that a Load may touch.
+pub(crate) fn test_load<'a>(
+    record: &[u8],
+    area: &'a mut [i32],
+) -> Result<(Matrix, &'a mut [i32; AREA_WORDS]), Refusal> {
     let matrix = parse_matrix(record)?;
     let area = lent_area(area)?;
     test_heard(&matrix)?;
+    Ok((matrix, area))
+}
+
+/// Load without its tests.
+pub(crate) fn fill(matrix: &Matrix, area: &mut [i32; AREA_WORDS]) -> LoadReply {
     *area = WorkArea::loaded(&matrix.to_real()).to_words();
-    Ok(LoadReply {
+    LoadReply {
         number: 0,
         heard: matrix.heard(),
         job: Job::LOADED,
-    })
+    }
 }
 
 pub(crate) fn accept_run(job: Job, allowance: u16, area: &mut [i32]) -> Result<RunReply, Refusal> {

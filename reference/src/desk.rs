@@ -1,12 +1,16 @@
-//! The desk: eight sectors, each with a job of its own and its own share of the turns of a round.
+//! The desk: eight sectors, each with a job of its own, its own share of the turns of a round, and
+//! room for one matrix that waits for the job to be fetched.
 //!
 //! The desk has a seat for each sector, a value of its own with all that the desk knows of that
 //! sector, and is nothing else. A call takes the seat, does the factorization's own call with its
 //! job, and seats the sector anew. All calls answer alike: what one of them does not speak of is 0.
 
+use crate::area::AREA_WORDS;
 use crate::calls;
 use crate::clamps::Clamps;
 use crate::job::Job;
+use crate::matrix::Matrix;
+use crate::records::{matrix_behind_kind, write_matrix, MATRIX_RECORD};
 use crate::replies::Refusal;
 use crate::schedule::TURNS;
 
@@ -28,6 +32,11 @@ pub struct Seat {
     pub share: u16,
     /// The turns that it has left in the round.
     pub left: u16,
+    /// 0 when no matrix waits, and 1 when one does. A host may make up any other number, which means
+    /// the same as 1.
+    pub waits: u8,
+    /// The record that waits. Of no meaning when none does: that of one that is loaded is not wiped.
+    pub record: [u8; MATRIX_RECORD],
 }
 
 impl Seat {
@@ -37,6 +46,8 @@ impl Seat {
         heard: 0,
         share: FIRST_SHARE,
         left: FIRST_SHARE,
+        waits: 0,
+        record: [0; MATRIX_RECORD],
     };
 
     /// The seat when a round begins. What was left is lost.
@@ -45,6 +56,41 @@ impl Seat {
             left: self.share,
             ..self
         }
+    }
+
+    /// Whether a matrix that is handed in is loaded at once: the job has no turn to make, and none
+    /// waits. A job beyond the last turn, which only a host can make up, has none to make either.
+    fn is_free(&self) -> bool {
+        self.job.turn >= TURNS && self.waits == 0
+    }
+
+    /// The seat after a load, which fills the area. No count of turns is touched.
+    fn loaded(self, matrix: &Matrix, area: &mut [i32; AREA_WORDS]) -> Self {
+        let loaded = calls::fill(matrix, area);
+        Seat {
+            job: loaded.job,
+            heard: loaded.heard,
+            ..self
+        }
+    }
+
+    /// The seat with a record that waits, whatever waited before.
+    fn waited_for_by(self, record: [u8; MATRIX_RECORD]) -> Self {
+        Seat {
+            waits: 1,
+            record,
+            ..self
+        }
+    }
+
+    /// The seat after its result was fetched from an area: what waits is loaded there. It was tested
+    /// when it was handed in.
+    fn fetched(self, area: &mut [i32; AREA_WORDS]) -> Self {
+        if self.waits == 0 {
+            return self;
+        }
+        let matrix = matrix_behind_kind(&self.record);
+        Seat { waits: 0, ..self }.loaded(&matrix, area)
     }
 
     /// Test 13, of a job that exists.
@@ -138,9 +184,10 @@ pub fn set_shares(desk: &Desk, shares: &[u16; SECTORS]) -> DeskReply {
     DeskReply::from(desk)
 }
 
-/// A sector's Load, whatever its job was.
-pub fn load(desk: &Desk, sector: u32, record: &[u8], area: &mut [i32]) -> DeskReply {
-    let reply = accept_load(desk, sector, record, area);
+/// Hands in a sector's matrix, which is loaded or waits, and answers the job and the heard byte that
+/// the sector then has.
+pub fn hand_in(desk: &Desk, sector: u32, record: &[u8], area: &mut [i32]) -> DeskReply {
+    let reply = accept_hand_in(desk, sector, record, area);
     reply.unwrap_or_else(|refusal| DeskReply::refused(refusal, desk))
 }
 
@@ -151,8 +198,8 @@ pub fn run(desk: &Desk, sector: u32, request: u16, area: &mut [i32]) -> DeskRepl
     reply.unwrap_or_else(|refusal| DeskReply::refused(refusal, desk))
 }
 
-/// A sector's Fetch.
-pub fn fetch(desk: &Desk, sector: u32, area: &[i32], buffer: &mut [u8]) -> DeskReply {
+/// A sector's Fetch, after which the matrix that waits is loaded.
+pub fn fetch(desk: &Desk, sector: u32, area: &mut [i32], buffer: &mut [u8]) -> DeskReply {
     let reply = accept_fetch(desk, sector, area, buffer);
     reply.unwrap_or_else(|refusal| DeskReply::refused(refusal, desk))
 }
@@ -168,19 +215,22 @@ pub fn heard(desk: &Desk, sector: u32) -> DeskReply {
     }
 }
 
-fn accept_load(
+fn accept_hand_in(
     desk: &Desk,
     sector: u32,
     record: &[u8],
     area: &mut [i32],
 ) -> Result<DeskReply, Refusal> {
     let seat = desk.seat(sector)?;
-    let loaded = calls::accept_load(record, area)?;
-    let (job, heard) = (loaded.job, loaded.heard);
-    let seat = Seat { job, heard, ..seat };
+    let (matrix, area) = calls::test_load(record, area)?;
+    let seat = if seat.is_free() {
+        seat.loaded(&matrix, area)
+    } else {
+        seat.waited_for_by(write_matrix(&matrix))
+    };
     Ok(DeskReply {
-        heard,
-        job,
+        heard: seat.heard,
+        job: seat.job,
         ..DeskReply::from(desk.seated(sector, seat))
     })
 }
@@ -210,12 +260,13 @@ fn accept_run(
 fn accept_fetch(
     desk: &Desk,
     sector: u32,
-    area: &[i32],
+    area: &mut [i32],
     buffer: &mut [u8],
 ) -> Result<DeskReply, Refusal> {
     let seat = desk.seat(sector)?;
     calls::accept_fetch(seat.job, area, buffer)?;
-    Ok(DeskReply::from(*desk))
+    let seat = seat.fetched(calls::lent_area(area)?);
+    Ok(DeskReply::from(desk.seated(sector, seat)))
 }
 
 #[cfg(test)]
@@ -227,7 +278,7 @@ mod tests {
 
     fn loaded(sectors: &[u32], area: &mut [i32; 512]) -> Desk {
         sectors.iter().fold(Desk::NEW, |desk, &sector| {
-            load(&desk, sector, &RECORD, area).desk
+            hand_in(&desk, sector, &RECORD, area).desk
         })
     }
 
@@ -243,6 +294,8 @@ mod tests {
             heard: 0,
             share: 15,
             left: 15,
+            waits: 0,
+            record: [0; 257],
         };
         assert_eq!(Desk::NEW.seats, [seat; 8]);
     }
@@ -279,18 +332,98 @@ mod tests {
         assert_eq!(set_shares(&Desk::NEW, &wrapping), refused);
     }
 
-    #[test]
-    fn a_load_seats_its_sector_and_leaves_the_counts() {
-        let mut area = [0; 512];
+    /// A desk at which sector 3 has a job, and a count that is not its share.
+    fn desk_at(turn: u32, made: u32) -> Desk {
         let mut desk = Desk::NEW;
-        (desk.seats[3].share, desk.seats[3].left) = (9, 7);
-        let reply = load(&desk, 3, &RECORD, &mut area);
-        assert_eq!((reply.number, reply.heard), (0, 255));
-        assert_eq!((reply.job, reply.count), (Job::new(0, 0), 0));
-        (desk.seats[3].job, desk.seats[3].heard) = (Job::new(0, 0), 255);
-        assert_eq!(reply.desk, desk);
-        let reply = load(&reply.desk, 3, &[1], &mut area);
-        assert_eq!((reply.number, reply.heard), (2, 0));
+        desk.seats[3] = Seat {
+            job: Job::new(turn, made),
+            heard: 7,
+            share: 9,
+            left: 4,
+            ..Seat::NEW
+        };
+        desk
+    }
+
+    /// Turns beyond the last are none to make. What waited before and was loaded stays where it was.
+    #[test]
+    fn a_matrix_for_a_free_sector_is_loaded() {
+        for (turn, made) in [(120, 0), (120, 120), (121, 0), (u32::MAX, u32::MAX)] {
+            let (mut area, mut due) = ([7; 512], desk_at(turn, made));
+            due.seats[3].record = [9; 257];
+            let reply = hand_in(&due, 3, &RECORD, &mut area);
+            assert_eq!((reply.number, reply.heard), (0, 255));
+            assert_eq!((reply.job, reply.count), (Job::new(0, 0), 0));
+            (due.seats[3].job, due.seats[3].heard) = (Job::new(0, 0), 255);
+            assert_eq!(reply.desk, due);
+            assert_eq!((area[0], area[16]), (257 << 13, 1 << 30));
+        }
+    }
+
+    #[test]
+    fn a_matrix_for_a_sector_that_is_not_free_waits() {
+        for (turn, made, waits) in [
+            (0, 0, 0),
+            (119, 5, 0),
+            (5, 6, 0),
+            (120, 0, 1),
+            (121, 0, 255),
+        ] {
+            let (mut area, mut due) = ([7; 512], desk_at(turn, made));
+            (due.seats[3].waits, due.seats[3].record) = (waits, [9; 257]);
+            let reply = hand_in(&due, 3, &RECORD, &mut area);
+            assert_eq!((reply.number, reply.heard), (0, 7));
+            assert_eq!(reply.job, Job::new(turn, made));
+            (due.seats[3].waits, due.seats[3].record) = (1, RECORD);
+            assert_eq!((reply.desk, area), (due, [7; 512]));
+        }
+    }
+
+    #[test]
+    fn a_matrix_that_is_refused_leaves_the_one_that_waits() {
+        let mut desk = desk_at(5, 5);
+        (desk.seats[3].waits, desk.seats[3].record) = (1, RECORD);
+        let (mut area, none_heard) = ([7; 512], [&[1], &[0; 256][..]].concat());
+        let mut number = |record: &[u8], words: usize| {
+            let reply = hand_in(&desk, 3, record, &mut area[..words]);
+            assert_eq!((reply.desk, reply.heard), (desk, 0));
+            reply.number
+        };
+        assert_eq!(number(&[], 511), 1);
+        assert_eq!(number(&[1], 511), 2);
+        assert_eq!(number(&RECORD, 511), 3);
+        assert_eq!(number(&none_heard, 512), 4);
+        assert_eq!(area, [7; 512]);
+    }
+
+    /// Only a Fetch that succeeds brings it in, and it is not tested again: kind byte and heard byte
+    /// may be anything.
+    #[test]
+    fn a_fetch_brings_in_what_waits() {
+        for (waits, kind, part, heard) in [(1, 1, 1, 255), (2, 0, 1, 255), (255, 2, 0, 0)] {
+            let (mut area, mut buffer) = ([0; 512], [7; 2049]);
+            let mut due = desk_at(120, 8);
+            let mut record = [part; 257];
+            record[0] = kind;
+            (due.seats[3].waits, due.seats[3].record) = (waits, record);
+            let refused = fetch(&due, 3, &mut area, &mut buffer[..2048]);
+            assert_eq!(refused, DeskReply::refused(Refusal::Buffer, &due));
+            assert_eq!((area, buffer), ([0; 512], [7; 2049]));
+            let reply = fetch(&due, 3, &mut area, &mut buffer);
+            (due.seats[3].job, due.seats[3].heard) = (Job::new(0, 0), heard);
+            due.seats[3].waits = 0;
+            assert_eq!(reply, DeskReply::from(due));
+            assert_eq!((area[16], buffer[..3].to_vec()), (1 << 30, vec![2, 0, 0]));
+        }
+    }
+
+    #[test]
+    fn a_fetch_with_none_waiting_may_be_repeated() {
+        let (mut area, desk) = ([0; 512], desk_at(120, 8));
+        for _ in 0..2 {
+            let reply = fetch(&desk, 3, &mut area, &mut [0; 2049]);
+            assert_eq!((reply, area), (DeskReply::from(desk), [0; 512]));
+        }
     }
 
     /// The smallest of the request, what the sector has left and what its job has left. Nobody else
@@ -344,9 +477,9 @@ mod tests {
     fn a_sector_above_7_is_refused_ahead_of_all_else() {
         for sector in [8, 255, 256, u32::MAX] {
             let refused = DeskReply::refused(Refusal::Sector, &Desk::NEW);
-            assert_eq!(load(&Desk::NEW, sector, &[], &mut []), refused);
+            assert_eq!(hand_in(&Desk::NEW, sector, &[], &mut []), refused);
             assert_eq!(run(&Desk::NEW, sector, 1, &mut []), refused);
-            assert_eq!(fetch(&Desk::NEW, sector, &[], &mut []), refused);
+            assert_eq!(fetch(&Desk::NEW, sector, &mut [], &mut []), refused);
             assert_eq!(heard(&Desk::NEW, sector), refused);
         }
     }

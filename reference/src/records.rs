@@ -19,11 +19,20 @@ pub const RESULT_KIND: u8 = 2;
 /// Parses a matrix record: tests 1 and 2.
 pub fn parse_matrix(record: &[u8]) -> Result<Matrix, Refusal> {
     let body = body(record, MATRIX_KIND, MATRIX_RECORD)?;
+    Ok(matrix_of(body))
+}
+
+/// The matrix whose elements follow a kind byte, which may be any.
+pub fn matrix_behind_kind(record: &[u8; MATRIX_RECORD]) -> Matrix {
+    matrix_of(&record[1..])
+}
+
+fn matrix_of(body: &[u8]) -> Matrix {
     let part = |at: usize| i16::from_be_bytes([body[at], body[at + 1]]);
-    Ok(Matrix::from_fn(|i, j| {
+    Matrix::from_fn(|i, j| {
         let at = 4 * (ANTENNAS * i + j);
         Complex::new(part(at), part(at + 2))
-    }))
+    })
 }
 
 /// Writes a matrix record.

@@ -1,12 +1,14 @@
 //! Before anything is timed: a desk answers what the engine's answers, in every field of the reply,
-//! the desk and every word of the area, where a call is accepted and where it is refused.
+//! the desk, every word of the area and every byte of the buffer, where a call is accepted and where
+//! it is refused.
 
-use hubqr::ffi::{RunReply, Shares};
-use hubqr::{Desk, Job, AREA_WORDS, SECTORS, TURNS};
+use hubqr::ffi::{LoadReply, RunReply};
+use hubqr::{Desk, Job, RESULT_RECORD_BYTES, SECTORS};
 use reference::random::Random;
 
+use super::calls::{any_area, any_call, made_up, Call};
 use super::contenders::{Contender, ENGINE};
-use crate::contenders::Area;
+use crate::contenders::{Area, Buffer};
 use crate::inputs;
 
 /// Calls in a row, of which each takes the desk that the one before it answered, and after how many
@@ -16,19 +18,6 @@ const CALLS_OF_A_LOAD: usize = 100;
 
 /// Calls with a desk that was made up.
 const MADE_UP: usize = 4000;
-
-/// Numbers around those that decide: of turns, of requests, counts and shares, and of sectors.
-const TURN_NUMBERS: [u32; 9] = [0, 1, 60, 118, 119, 120, 121, 256, u32::MAX];
-const COUNTS: [u16; 10] = [0, 1, 15, 119, 120, 121, 256, 300, 1 << 13, u16::MAX];
-const OTHER_SECTORS: [u32; 6] = [8, 255, 256, 263, 65_536, u32::MAX];
-
-/// What begins a round, sets shares or runs a sector: sector, request, words of the area.
-#[derive(Clone, Copy, Debug)]
-enum Call {
-    Begin,
-    SetShares(Shares),
-    Run(u32, u16, usize),
-}
 
 /// Where a contender first disagrees with the engine, if it does.
 pub fn check(who: &Contender, seed: u64) -> Result<(), String> {
@@ -40,16 +29,16 @@ pub fn check(who: &Contender, seed: u64) -> Result<(), String> {
             desk.jobs = loaded().jobs;
         }
         let call = any_call(&mut random);
-        let area = &mut areas[sector_of(call) % SECTORS];
-        let expected = outcome(&ENGINE, &desk, call, area);
-        compare(who, &desk, call, area, &expected)?;
+        let area = &mut areas[call.sector().unwrap_or(0) as usize % SECTORS];
+        let expected = outcome(&ENGINE, &desk, &call, area);
+        compare(who, &desk, &call, area, &expected)?;
         (desk, *area) = (expected.desk, expected.area);
     }
     for _ in 0..MADE_UP {
         let (desk, call) = (made_up(&mut random), any_call(&mut random));
-        let area = inputs::words(&mut random);
-        let expected = outcome(&ENGINE, &desk, call, &area);
-        compare(who, &desk, call, &area, &expected)?;
+        let area = any_area(&mut random);
+        let expected = outcome(&ENGINE, &desk, &call, &area);
+        compare(who, &desk, &call, &area, &expected)?;
     }
     Ok(())
 }
@@ -65,6 +54,7 @@ pub fn loaded() -> Desk {
 #[derive(PartialEq)]
 enum Reply {
     Number(u8),
+    HandedIn(LoadReply),
     Ran(RunReply),
 }
 
@@ -74,24 +64,38 @@ struct Outcome {
     reply: Reply,
     desk: Desk,
     area: Area,
+    buffer: Buffer,
 }
 
-fn outcome(who: &Contender, desk: &Desk, call: Call, area: &Area) -> Outcome {
-    let (mut desk, mut area) = (desk.clone(), *area);
-    let reply = match call {
+fn outcome(who: &Contender, desk: &Desk, call: &Call, area: &Area) -> Outcome {
+    let (mut desk, mut area, mut buffer) = (desk.clone(), *area, [0xa5; RESULT_RECORD_BYTES]);
+    let reply = match *call {
         Call::Begin => Reply::Number((who.begin)(&mut desk)),
         Call::SetShares(shares) => Reply::Number((who.set_shares)(&mut desk, shares)),
+        Call::HandIn(sector, ref record, words) => {
+            let area = &mut area[..words];
+            Reply::HandedIn((who.hand_in)(&mut desk, sector, record, area))
+        }
         Call::Run(sector, request, words) => {
             Reply::Ran((who.run)(&mut desk, sector, request, &mut area[..words]))
         }
+        Call::Fetch(sector, words, bytes) => {
+            let (area, buffer) = (&mut area[..words], &mut buffer[..bytes]);
+            Reply::Number((who.fetch)(&mut desk, sector, area, buffer))
+        }
     };
-    Outcome { reply, desk, area }
+    Outcome {
+        reply,
+        desk,
+        area,
+        buffer,
+    }
 }
 
 fn compare(
     who: &Contender,
     desk: &Desk,
-    call: Call,
+    call: &Call,
     area: &Area,
     expected: &Outcome,
 ) -> Result<(), String> {
@@ -101,72 +105,11 @@ fn compare(
     }
 }
 
-fn sector_of(call: Call) -> usize {
-    match call {
-        Call::Begin | Call::SetShares(_) => 0,
-        Call::Run(sector, ..) => sector as usize,
-    }
-}
-
-/// Most are of a sector and an area long enough.
-fn any_call(random: &mut Random) -> Call {
-    if random.one_in(10) {
-        return Call::Begin;
-    }
-    if random.one_in(10) {
-        return Call::SetShares(any_shares(random));
-    }
-    let sector = match random.one_in(10) {
-        true => random.choose(&OTHER_SECTORS),
-        false => random.between(0, SECTORS as i64 - 1) as u32,
-    };
-    let request = match random.one_in(2) {
-        true => random.choose(&COUNTS),
-        false => random.between(0, 20) as u16,
-    };
-    let words = match random.one_in(20) {
-        true => random.choose(&[0, AREA_WORDS - 1]),
-        false => AREA_WORDS,
-    };
-    Call::Run(sector, request, words)
-}
-
-/// Some are of any size. Of the others one has what makes a total around 120, or one that 16 bits
-/// would cut to 0.
-fn any_shares(random: &mut Random) -> Shares {
-    if random.one_in(4) {
-        return Shares {
-            shares: std::array::from_fn(|_| random.choose(&COUNTS)),
-        };
-    }
-    let mut shares: [u16; SECTORS] = std::array::from_fn(|_| random.between(0, 16) as u16);
-    let place = random.below(SECTORS);
-    shares[place] = 0;
-    let total = random.choose(&[119, 120, 121, 65_536]);
-    let rest = total - shares.iter().copied().map(u32::from).sum::<u32>();
-    shares[place] = rest.try_into().unwrap_or(u16::MAX);
-    Shares { shares }
-}
-
-/// A desk of any numbers. No calls lead to it, but calls have to take it.
-fn made_up(random: &mut Random) -> Desk {
-    let number = |random: &mut Random| match random.one_in(2) {
-        true => random.choose(&TURN_NUMBERS),
-        false => random.between(0, TURNS.into()) as u32,
-    };
-    Desk {
-        jobs: std::array::from_fn(|_| Job {
-            turn: number(random),
-            made: number(random),
-        }),
-        heard: std::array::from_fn(|_| random.word() as u8),
-        shares: std::array::from_fn(|_| random.choose(&COUNTS)),
-        left: std::array::from_fn(|_| random.choose(&COUNTS)),
-    }
-}
-
 #[cfg(test)]
 mod tests {
+    use hubqr::ffi::Shares;
+    use hubqr::{AREA_WORDS, TURNS};
+
     use super::*;
 
     fn begins(begin: fn(&mut Desk) -> u8) -> bool {
@@ -181,8 +124,16 @@ mod tests {
         check(&who, 1).is_ok()
     }
 
+    fn hands_in(hand_in: fn(&mut Desk, u32, &[u8], &mut [i32]) -> LoadReply) -> bool {
+        check(&Contender { hand_in, ..ENGINE }, 1).is_ok()
+    }
+
     fn runs(run: fn(&mut Desk, u32, u16, &mut [i32]) -> RunReply) -> bool {
         check(&Contender { run, ..ENGINE }, 1).is_ok()
+    }
+
+    fn fetches(fetch: fn(&mut Desk, u32, &mut [i32], &mut [u8]) -> u8) -> bool {
+        check(&Contender { fetch, ..ENGINE }, 1).is_ok()
     }
 
     /// Sets shares that have this total, if that is not above `most`.
@@ -274,6 +225,66 @@ mod tests {
                 reply.number = 0;
             }
             reply
+        }));
+    }
+
+    #[test]
+    fn wrong_hand_ins_are_noticed() {
+        assert!(hands_in(ENGINE.hand_in));
+        assert!(!hands_in(|desk, sector, record, area| {
+            if let Some(job) = desk.jobs.get_mut(sector as usize) {
+                job.turn = job.turn.max(TURNS); // as if an unfinished job were dropped
+            }
+            (ENGINE.hand_in)(desk, sector, record, area)
+        }));
+        assert!(!hands_in(|desk, sector, record, area| {
+            if let Some(waits) = desk.waits.get_mut(sector as usize) {
+                *waits = 0; // as if one that waits were dropped when another comes, or is refused
+            }
+            (ENGINE.hand_in)(desk, sector, record, area)
+        }));
+        assert!(!hands_in(|desk, sector, record, area| {
+            let mut reply = (ENGINE.hand_in)(desk, sector, record, area);
+            if reply.number == 0 && desk.waits[sector as usize] > 0 {
+                reply.heard = hubqr::load(record, &mut [0; AREA_WORDS]).map_or(0, |l| l.heard);
+            }
+            reply
+        }));
+        assert!(!hands_in(|desk, sector, record, area| {
+            let reply = (ENGINE.hand_in)(desk, sector, record, area);
+            if reply.number == 0 {
+                desk.left[sector as usize] = desk.shares[sector as usize]; // as if a round began
+            }
+            reply
+        }));
+    }
+
+    #[test]
+    fn wrong_fetches_are_noticed() {
+        assert!(fetches(ENGINE.fetch));
+        assert!(!fetches(|desk, sector, area, buffer| {
+            let before = desk.clone();
+            let number = (ENGINE.fetch)(desk, sector, area, buffer);
+            *desk = before; // as if nothing were brought in
+            number
+        }));
+        assert!(!fetches(|desk, sector, area, buffer| {
+            let waits = desk.waits;
+            let number = (ENGINE.fetch)(desk, sector, area, buffer);
+            desk.waits = waits; // as if it went on waiting
+            number
+        }));
+        assert!(!fetches(|desk, sector, area, buffer| {
+            let heard = desk.heard;
+            let number = (ENGINE.fetch)(desk, sector, area, buffer);
+            desk.heard = heard; // as if the heard byte outlasted the load
+            number
+        }));
+        assert!(!fetches(|desk, sector, area, buffer| {
+            let words = area.to_vec();
+            let number = (ENGINE.fetch)(desk, sector, area, buffer);
+            area.copy_from_slice(&words); // as if the area were only read
+            number
         }));
     }
 }

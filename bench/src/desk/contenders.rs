@@ -1,12 +1,13 @@
 //! Who is timed: desks, which have to agree in every field of the reply and every word of the area,
 //! and the engine without a desk.
 
-use hubqr::ffi::{self, DeskReply, DeskRunReply, RunReply, Shares};
-use hubqr::Desk;
+use hubqr::ffi::{self, DeskLoadReply, DeskReply, DeskRunReply, LoadReply, RunReply, Shares};
+use hubqr::{Desk, MATRIX_RECORD_BYTES};
 
 use super::{agree, versions};
 
-/// An implementation under the name that the table has. It takes any desk, sector and request.
+/// An implementation under the name that the table has. It takes any desk whose matrices passed the
+/// tests of a hand-in, and any sector, record, request and lengths.
 #[derive(Clone, Copy)]
 pub struct Contender {
     pub name: &'static str,
@@ -15,8 +16,12 @@ pub struct Contender {
     pub begin: fn(&mut Desk) -> u8,
     /// Sets all shares, and answers the number.
     pub set_shares: fn(&mut Desk, Shares) -> u8,
+    /// Hands in a sector's record.
+    pub hand_in: fn(&mut Desk, u32, &[u8], &mut [i32]) -> LoadReply,
     /// A sector's Run.
     pub run: fn(&mut Desk, u32, u16, &mut [i32]) -> RunReply,
+    /// A sector's Fetch, which answers the number.
+    pub fetch: fn(&mut Desk, u32, &mut [i32], &mut [u8]) -> u8,
 }
 
 impl Contender {
@@ -32,6 +37,17 @@ pub fn kept(desk: &mut Desk, call: impl FnOnce(Desk) -> DeskReply) -> u8 {
     let reply = call(desk.clone());
     *desk = reply.desk;
     reply.number
+}
+
+/// Hands in by a call that takes and answers the desk by value. The reply is that of a Load without it.
+pub fn handed_in(desk: &mut Desk, hand_in: impl FnOnce(Desk) -> DeskLoadReply) -> LoadReply {
+    let reply = hand_in(desk.clone());
+    *desk = reply.desk;
+    LoadReply {
+        number: reply.number,
+        heard: reply.heard,
+        job: reply.job,
+    }
 }
 
 /// Runs by a call that takes and answers the desk by value. The reply is that of a Run without it.
@@ -58,6 +74,20 @@ pub const ENGINE: Contender = Contender {
             ffi::hubqr_desk_set_shares(desk, shares)
         })
     },
+    // SAFETY: the call reads the record, and writes the area alone.
+    hand_in: |desk, sector, record, area| {
+        let (bytes, words) = (record.len(), area.len());
+        handed_in(desk, |desk| unsafe {
+            ffi::hubqr_desk_hand_in(
+                desk,
+                sector,
+                record.as_ptr(),
+                bytes,
+                area.as_mut_ptr(),
+                words,
+            )
+        })
+    },
     // SAFETY: the call reads and writes the area alone.
     run: |desk, sector, request, area| {
         let (words, length) = (area.as_mut_ptr(), area.len());
@@ -65,14 +95,33 @@ pub const ENGINE: Contender = Contender {
             ffi::hubqr_desk_run(desk, sector, request, words, length)
         })
     },
+    // SAFETY: the call reads and writes the area, and writes the buffer.
+    fetch: |desk, sector, area, buffer| {
+        let (words, bytes) = (area.len(), buffer.len());
+        kept(desk, |desk| unsafe {
+            ffi::hubqr_desk_fetch(
+                desk,
+                sector,
+                area.as_mut_ptr(),
+                words,
+                buffer.as_mut_ptr(),
+                bytes,
+            )
+        })
+    },
 };
 
-/// The engine's own Run, for a host that keeps the jobs of its sectors and nothing else: it has
-/// neither rounds nor shares. All others are compared with it.
+/// The engine's own calls, for a host that keeps the jobs of its sectors and a record that waits for
+/// each, and nothing else: it has neither rounds nor shares. All others are compared with it.
 pub const BASE: Contender = Contender {
     name: "engine, no desk",
     begin: |_| 0,
     set_shares: |_, _| 0,
+    hand_in: |desk, sector, record, area| {
+        let reply = load(record, area);
+        desk.jobs[sector as usize] = reply.job;
+        reply
+    },
     // SAFETY: the call reads and writes the area alone.
     run: |desk, sector, request, area| {
         let job = &mut desk.jobs[sector as usize];
@@ -80,7 +129,29 @@ pub const BASE: Contender = Contender {
         *job = reply.job;
         reply
     },
+    fetch: |desk, sector, area, buffer| {
+        let sector = sector as usize;
+        let (words, bytes) = (area.len(), buffer.len());
+        let (job, target) = (desk.jobs[sector], buffer.as_mut_ptr());
+        // SAFETY: the call reads the area, and writes the buffer alone.
+        let number = unsafe { ffi::hubqr_fetch(job, area.as_ptr(), words, target, bytes) };
+        if desk.waits[sector] == 0 {
+            return number;
+        }
+        let start = MATRIX_RECORD_BYTES * sector;
+        let reply = load(&desk.records[start..start + MATRIX_RECORD_BYTES], area);
+        desk.jobs[sector] = reply.job;
+        desk.waits[sector] = 0;
+        number | reply.number
+    },
 };
+
+/// The engine's own Load.
+fn load(record: &[u8], area: &mut [i32]) -> LoadReply {
+    let (bytes, words) = (record.len(), area.len());
+    // SAFETY: the call reads the record, and writes the area alone.
+    unsafe { ffi::hubqr_load(record.as_ptr(), bytes, area.as_mut_ptr(), words) }
+}
 
 /// The desks that this build has, the engine's first.
 pub fn desks() -> Vec<Contender> {

@@ -4,12 +4,12 @@ use std::hint::black_box;
 use std::time::Instant;
 
 use hubqr::ffi::Shares;
-use hubqr::{AREA_WORDS, FIRST_SHARE, ROUND_TURNS, SECTORS};
+use hubqr::{Desk, AREA_WORDS, FIRST_SHARE, RESULT_RECORD_BYTES, ROUND_TURNS, SECTORS};
 use reference::random::Random;
 
 use super::agree::loaded;
 use super::contenders::{Contender, BASE};
-use crate::contenders::{Area, ACCEPTED, ENGINE};
+use crate::contenders::{Area, Buffer, Record, ACCEPTED, ENGINE, FINISHED};
 use crate::inputs;
 
 /// The shares that are set.
@@ -19,8 +19,16 @@ const SHARES: Shares = Shares {
 
 #[derive(Clone, Copy, PartialEq, Eq)]
 pub enum Measure {
+    /// A hand-in for a finished job, which is loaded.
+    Load,
+    /// A hand-in that waits, in the place of another.
+    Wait,
     /// A sector's Run with this request, which is granted.
     Run(u16),
+    /// A Fetch while none waits.
+    Fetch,
+    /// A Fetch that brings in the matrix that waits.
+    Next,
     /// A round by the first shares: its beginning and eight Runs.
     Round,
     /// All shares are set.
@@ -28,25 +36,30 @@ pub enum Measure {
 }
 
 impl Measure {
-    pub const ALL: [Measure; 5] = [
+    pub const ALL: [Measure; 9] = [
+        Measure::Load,
+        Measure::Wait,
         Measure::Run(0),
         Measure::Run(1),
         Measure::Run(FIRST_SHARE),
+        Measure::Fetch,
+        Measure::Next,
         Measure::Round,
         Measure::Shares,
     ];
 
-    /// Whether a contender is timed at it. A host without a desk has no shares to set.
+    /// Whether a contender is timed at it. A host without a desk has no shares to set, and tests no
+    /// record before it loads it.
     pub fn is_for(self, who: &Contender) -> bool {
-        self != Measure::Shares || who.name != BASE.name
+        ![Measure::Wait, Measure::Shares].contains(&self) || who.name != BASE.name
     }
 
-    /// The turns of a Run. Where shares are set, none are requested.
+    /// The turns of a Run. In the other calls none are requested.
     fn request(self) -> u16 {
         match self {
             Measure::Run(request) => request,
             Measure::Round => FIRST_SHARE,
-            Measure::Shares => 0,
+            _ => 0,
         }
     }
 
@@ -58,88 +71,180 @@ impl Measure {
     }
 }
 
-/// The areas of eight sectors that were just loaded.
-type Areas = [Area; SECTORS];
+/// Fresh matrices of all sectors.
+struct Matrices {
+    full: [Record; SECTORS],
+    /// Those whose areas can be fetched when they are loaded.
+    finished: [Record; SECTORS],
+}
 
-/// Fresh matrices of all sectors, and others for warming up, which are not timed.
+impl Matrices {
+    fn fresh(random: &mut Random) -> Matrices {
+        Matrices {
+            full: std::array::from_fn(|_| inputs::record(random)),
+            finished: std::array::from_fn(|_| inputs::finished(random)),
+        }
+    }
+
+    /// What a measure begins with: each area is loaded from the matrix of its sector, and that of the
+    /// next sector waits, where one does, or is handed in.
+    fn hub(&self, measure: Measure) -> Hub {
+        let mut records = match measure {
+            Measure::Fetch | Measure::Next => self.finished,
+            _ => self.full,
+        };
+        let areas = records.map(|record| {
+            let mut area = [0; AREA_WORDS];
+            (ENGINE.load)(&record, &mut area);
+            area
+        });
+        records.rotate_left(1);
+        let mut desk = loaded();
+        desk.records.copy_from_slice(records.as_flattened());
+        if [Measure::Load, Measure::Fetch, Measure::Next].contains(&measure) {
+            desk.jobs = [FINISHED; SECTORS];
+        }
+        if [Measure::Wait, Measure::Next].contains(&measure) {
+            desk.waits = [1; SECTORS];
+        }
+        Hub {
+            desk,
+            areas,
+            buffer: [0; RESULT_RECORD_BYTES],
+            records,
+        }
+    }
+}
+
+/// Fresh matrices, and others for warming up, which are not timed.
 pub struct Batch {
-    warm_up: Areas,
-    timed: Areas,
+    warm_up: Matrices,
+    timed: Matrices,
 }
 
 impl Batch {
     pub fn fresh(random: &mut Random) -> Batch {
-        let mut area = |_| {
-            let mut area = [0; AREA_WORDS];
-            (ENGINE.load)(&inputs::record(random), &mut area);
-            area
-        };
         Batch {
-            warm_up: std::array::from_fn(&mut area),
-            timed: std::array::from_fn(&mut area),
+            warm_up: Matrices::fresh(random),
+            timed: Matrices::fresh(random),
         }
     }
 
-    /// Nanoseconds of a contender's call, or of its round, on average over the rounds that work the
-    /// eight matrices to the end.
+    /// Nanoseconds of a contender's call, or of its round, on average over eight rounds. Those that
+    /// request turns work the eight matrices to the end.
     pub fn time(&self, who: &Contender, measure: Measure) -> f64 {
-        let (mut warm_up, mut timed) = (self.warm_up, self.timed);
-        work(who, measure, &mut warm_up);
+        let (mut warm_up, mut timed) = (self.warm_up.hub(measure), self.timed.hub(measure));
+        warm_up.work(who, measure);
         let start = Instant::now();
-        let calls = work(who, measure, &mut timed);
+        let calls = timed.work(who, measure);
         let nanoseconds = start.elapsed().as_nanos() as f64;
         black_box((warm_up, timed));
         nanoseconds / f64::from(calls)
     }
 }
 
-/// Serves the sectors one after the other, in as many rounds as the first shares take, or sets shares
-/// instead. Answers how often the measure was done.
-fn work(who: &Contender, measure: Measure, areas: &mut Areas) -> u32 {
-    let (mut desk, mut number, mut done) = (loaded(), 0, 0);
-    for _ in 0..SECTORS {
-        match measure {
-            Measure::Run(_) => desk.left = [FIRST_SHARE; SECTORS],
-            Measure::Round => number |= (who.begin)(&mut desk),
-            Measure::Shares => {}
-        }
-        for call in 0..measure.calls() {
-            let sector = usize::from(call) % SECTORS;
-            let area = &mut areas[sector];
-            number |= match measure {
-                Measure::Shares => (who.set_shares)(&mut desk, black_box(SHARES)),
-                _ => (who.run)(&mut desk, sector as u32, measure.request(), area).number,
+/// What a host keeps, and what it hands in.
+struct Hub {
+    desk: Desk,
+    areas: [Area; SECTORS],
+    buffer: Buffer,
+    records: [Record; SECTORS],
+}
+
+impl Hub {
+    /// Serves the sectors one after the other, in as many rounds as the first shares take. Answers how
+    /// often the measure was done.
+    fn work(&mut self, who: &Contender, measure: Measure) -> u32 {
+        let (mut number, mut done) = (0, 0);
+        for _ in 0..SECTORS {
+            match measure {
+                Measure::Run(_) => self.desk.left = [FIRST_SHARE; SECTORS],
+                Measure::Round => number |= (who.begin)(&mut self.desk),
+                _ => {}
+            }
+            for call in 0..measure.calls() {
+                number |= self.call(who, measure, usize::from(call) % SECTORS);
+            }
+            done += match measure {
+                Measure::Round => 1,
+                _ => u32::from(measure.calls()),
             };
         }
-        done += match measure {
-            Measure::Round => 1,
-            _ => u32::from(measure.calls()),
-        };
+        assert_eq!(number, 0, "{ACCEPTED}");
+        done
     }
-    assert_eq!(number, 0, "{ACCEPTED}");
-    black_box(desk);
-    done
+
+    /// One call for a sector, whose number is answered. What a load has made of the sector's job, and
+    /// of what waits, is put back first.
+    fn call(&mut self, who: &Contender, measure: Measure, sector: usize) -> u8 {
+        let Hub {
+            desk,
+            areas,
+            buffer,
+            records,
+        } = self;
+        let (k, area) = (sector as u32, &mut areas[sector]);
+        match measure {
+            Measure::Load => {
+                desk.jobs[sector] = FINISHED;
+                (who.hand_in)(desk, k, &records[sector], area).number
+            }
+            Measure::Wait => (who.hand_in)(desk, k, &records[sector], area).number,
+            Measure::Run(_) | Measure::Round => (who.run)(desk, k, measure.request(), area).number,
+            Measure::Fetch => (who.fetch)(desk, k, area, buffer),
+            Measure::Next => {
+                desk.jobs[sector] = FINISHED;
+                desk.waits[sector] = 1;
+                (who.fetch)(desk, k, area, buffer)
+            }
+            Measure::Shares => (who.set_shares)(desk, black_box(SHARES)),
+        }
+    }
 }
 
 #[cfg(test)]
 mod tests {
     use super::*;
-    use crate::desk::contenders::desks;
+    use crate::desk::contenders::{desks, ENGINE};
 
-    /// Whoever is timed works all matrices to the end, or none where nothing is requested.
+    /// Whoever is timed does the same: works all matrices to the end where turns are requested, loads
+    /// those that are loaded, and leaves the areas as they are in all other calls.
     #[test]
-    fn all_turns_are_made_by_all() {
+    fn all_do_the_same_work() {
         let batch = Batch::fresh(&mut Random::new(1));
         for measure in Measure::ALL {
-            let areas = |who: &Contender| {
-                let mut areas = batch.timed;
-                (work(who, measure, &mut areas), areas)
+            let worked = |who: &Contender| {
+                let mut hub = batch.timed.hub(measure);
+                (hub.work(who, measure), hub.areas, hub.buffer)
             };
-            let expected = areas(&BASE);
-            assert_eq!(expected.1 == batch.timed, measure.request() == 0);
-            for who in desks() {
-                assert!(areas(&who) == expected, "{}", who.name);
+            let expected = worked(&ENGINE);
+            let changes = match measure {
+                Measure::Load | Measure::Next => true,
+                _ => measure.request() > 0,
+            };
+            assert_eq!(expected.1 != batch.timed.hub(measure).areas, changes);
+            for who in desks().iter().chain(&[BASE]) {
+                if measure.is_for(who) {
+                    assert!(worked(who) == expected, "{}", who.name);
+                }
             }
+        }
+    }
+
+    /// A hand-in that is timed as one that waits does wait, and a Fetch brings in what it is said to.
+    #[test]
+    fn each_measure_is_what_it_is_called() {
+        let batch = Batch::fresh(&mut Random::new(1));
+        for (measure, waits, turn) in [
+            (Measure::Load, 0, 0),
+            (Measure::Wait, 1, 0),
+            (Measure::Fetch, 0, 120),
+            (Measure::Next, 0, 0),
+        ] {
+            let mut hub = batch.timed.hub(measure);
+            hub.work(&ENGINE, measure);
+            assert_eq!(hub.desk.waits, [waits; SECTORS]);
+            assert!(hub.desk.jobs.iter().all(|job| job.turn == turn));
         }
     }
 }

@@ -39,7 +39,11 @@ pub fn everyone(results: &Results) -> Table {
 
 fn title(measure: Measure) -> String {
     match measure {
+        Measure::Load => "Hand-in, loaded".to_string(),
+        Measure::Wait => "Hand-in, waits".to_string(),
         Measure::Run(request) => format!("Run, request {request}"),
+        Measure::Fetch => "Fetch, none waits".to_string(),
+        Measure::Next => "Fetch, brings in".to_string(),
         Measure::Round => format!("Round, eight times {FIRST_SHARE}"),
         Measure::Shares => "Setting shares".to_string(),
     }
@@ -50,8 +54,9 @@ pub fn words(results: &Results) -> String {
     format!(
         "A time is the mean over the eight rounds of a desk that work eight matrices to the end. With \
          request 0 nothing is worked, and there are as many calls as with request 1; so often are \
-         shares set. No desk is the engine's own Run, by a host that keeps the jobs and has no shares; \
-         the ratio is to that, and nine of ten measurements lie between from and to.{}",
+         matrices handed in, results fetched and shares set. No desk is the engine's own Load, Run and \
+         Fetch, by a host that keeps the jobs and what waits, and has no shares; the ratio is to that, \
+         and nine of ten measurements lie between from and to.{}",
         clock(results)
     )
 }

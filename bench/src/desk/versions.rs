@@ -5,16 +5,25 @@
 macro_rules! compiled {
     ($prefix:ident, $name:literal) => {
         pub mod $prefix {
-            use hubqr::ffi::{DeskReply, DeskRunReply, Shares};
+            use hubqr::ffi::{DeskLoadReply, DeskReply, DeskRunReply, Shares};
             use hubqr::Desk;
 
-            use crate::desk::contenders::{kept, ran, Contender};
+            use crate::desk::contenders::{handed_in, kept, ran, Contender};
 
             extern "C" {
                 #[link_name = concat!(stringify!($prefix), "_desk_begin")]
                 fn desk_begin(desk: Desk) -> DeskReply;
                 #[link_name = concat!(stringify!($prefix), "_desk_set_shares")]
                 fn desk_set_shares(desk: Desk, shares: Shares) -> DeskReply;
+                #[link_name = concat!(stringify!($prefix), "_desk_hand_in")]
+                fn desk_hand_in(
+                    desk: Desk,
+                    sector: u32,
+                    record: *const u8,
+                    record_len: usize,
+                    area: *mut i32,
+                    area_len: usize,
+                ) -> DeskLoadReply;
                 #[link_name = concat!(stringify!($prefix), "_desk_run")]
                 fn desk_run(
                     desk: Desk,
@@ -23,6 +32,15 @@ macro_rules! compiled {
                     area: *mut i32,
                     area_len: usize,
                 ) -> DeskRunReply;
+                #[link_name = concat!(stringify!($prefix), "_desk_fetch")]
+                fn desk_fetch(
+                    desk: Desk,
+                    sector: u32,
+                    area: *mut i32,
+                    area_len: usize,
+                    buffer: *mut u8,
+                    buffer_len: usize,
+                ) -> DeskReply;
             }
 
             pub const CONTENDER: Contender = Contender {
@@ -33,11 +51,27 @@ macro_rules! compiled {
                 set_shares: |desk, shares| {
                     kept(desk, |desk| unsafe { desk_set_shares(desk, shares) })
                 },
+                // SAFETY: the call reads the record, and writes the area alone.
+                hand_in: |desk, sector, record, area| {
+                    let (bytes, length) = (record.as_ptr(), record.len());
+                    let (words, count) = (area.as_mut_ptr(), area.len());
+                    handed_in(desk, |desk| unsafe {
+                        desk_hand_in(desk, sector, bytes, length, words, count)
+                    })
+                },
                 // SAFETY: the call reads and writes the area alone.
                 run: |desk, sector, request, area| {
                     let (words, length) = (area.as_mut_ptr(), area.len());
                     ran(desk, |desk| unsafe {
                         desk_run(desk, sector, request, words, length)
+                    })
+                },
+                // SAFETY: the call reads and writes the area, and writes the buffer.
+                fetch: |desk, sector, area, buffer| {
+                    let (words, count) = (area.as_mut_ptr(), area.len());
+                    let (bytes, length) = (buffer.as_mut_ptr(), buffer.len());
+                    kept(desk, |desk| unsafe {
+                        desk_fetch(desk, sector, words, count, bytes, length)
                     })
                 },
             };

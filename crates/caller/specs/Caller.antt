@@ -15,7 +15,7 @@ use Rattle.covariance.specs.WriteMatrix.{writeOf}
 use Rattle.weights.specs.Weights.{weightsOf}
 use Rattle.desk.specs.declared.Desk.{Desk}
 use Rattle.desk.specs.Desk.{newDesk, beginOf}
-use Rattle.desk.specs.Load.{deskLoadOf}
+use Rattle.desk.specs.HandIn.{handInOf}
 use Rattle.desk.specs.Run.{deskRunOf}
 use Rattle.desk.specs.Fetch.{deskFetchOf}
 use Rattle.desk.specs.Heard.{deskHeardOf}
@@ -99,17 +99,18 @@ pub record ServedOutcome : Type 0 where
   pub area : List ℤ
   pub buffer : List ℕ
 
--- at a new desk: shares for all, and the begin of a round; for one sector Load, Run with a request of 120, and Fetch
-unfoldable pub servedOf : List ℕ → ℕ → List ℕ → List ℤ → List ℕ → ServedOutcome
-servedOf shares sector rec area buffer =
+-- at a new desk: shares for all, and the begin of a round; for one sector both hand-ins, Run with a request of 120, and Fetch
+unfoldable pub servedOf : List ℕ → ℕ → List ℕ → List ℕ → List ℤ → List ℕ → ServedOutcome
+servedOf shares sector rec following area buffer =
     let given = setSharesOf newDesk shares in
     let begun = beginOf (given .desk) in
-    let loaded = deskLoadOf (begun .desk) sector rec area in
-    let ran = deskRunOf (loaded .reply .desk) sector 120 (loaded .area) in
+    let first = handInOf (begun .desk) sector rec area in
+    let early = handInOf (first .reply .desk) sector following (first .area) in
+    let ran = deskRunOf (early .reply .desk) sector 120 (early .area) in
     let fetched = deskFetchOf (ran .reply .desk) sector (ran .area) buffer in
     record {
-      reply = record { set = given; begun = begun; load = loaded .reply; run = ran .reply; fetch = fetched .reply };
-      area = ran .area;
+      reply = record { set = given; begun = begun; first = first .reply; early = early .reply; run = ran .reply; fetch = fetched .reply };
+      area = fetched .area;
       buffer = fetched .buffer;
     }
 

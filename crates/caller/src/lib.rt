@@ -1,10 +1,10 @@
 // A caller of all calls, proved from their contracts alone: a factorization in two instalments, a stored result fetched again, a copy of a result,
-// the matrix of two snapshots, the weights of a matrix, a sector served at a desk, and a round begun there. Each answers the replies of all calls that it makes, so that
-// whoever calls it sees the first refusal. The words here are document 01's own.
+// the matrix of two snapshots, the weights of a matrix, a sector served at a desk with the next matrix early, and a round begun there. Each answers
+// the replies of all calls that it makes, so that whoever calls it sees the first refusal. The words here are document 01's own.
 use desk::Desk;
 use desk::DeskReply;
+use desk::hand_in::DeskLoadReply;
 use desk::heard::DeskHeardReply;
-use desk::load::DeskLoadReply;
 use desk::run::DeskRunReply;
 use desk::shares::Shares;
 use engine::job::Job;
@@ -53,11 +53,12 @@ pub struct WeighedReply {
     pub weights: WeightsReply,
 }
 
-// The replies of the setting of shares and the begin of a round, and of Load, Run and Fetch for a sector.
+// The replies of the setting of shares and the begin of a round, and of both hand-ins, Run and Fetch for a sector.
 pub struct ServedReply {
     pub set: DeskReply,
     pub begun: DeskReply,
-    pub load: DeskLoadReply,
+    pub first: DeskLoadReply,
+    pub early: DeskLoadReply,
     pub run: DeskRunReply,
     pub fetch: DeskReply,
 }
@@ -138,27 +139,31 @@ pub fn factor_and_weigh(
     }
 }
 
-// A sector is served at a new desk: shares for all sectors, the round from which on they count, Load, all turns that the sector's share has, and Fetch.
-// Each call is handed the desk that the one before answered.
+// A sector is served at a new desk: shares for all sectors, the round from which on they count, a matrix handed in and the next one early, all turns
+// that the sector's share has, and Fetch, which brings the next one in where the share was enough. Each call is handed the desk that the one before
+// answered.
 pub fn serve_sector(
     shares: Shares,
     sector: u32,
     bytes: &[u8],
+    next: &[u8],
     area: &mut [i32],
     buffer: &mut [u8],
 ) -> ServedReply
-    ensures { λ r. ⌜ record { reply = r; area = now (area .exit); buffer = now (buffer .exit) } ≡ servedOf (shares .shares) sector (now (bytes .entry)) (now (area .entry)) (now (buffer .entry)) ⌝ }
+    ensures { λ r. ⌜ record { reply = r; area = now (area .exit); buffer = now (buffer .exit) } ≡ servedOf (shares .shares) sector (now (bytes .entry)) (now (next .entry)) (now (area .entry)) (now (buffer .entry)) ⌝ }
 {
     let new = hubqr::sectors::hubqr_desk_new();
     let set = hubqr::sectors::hubqr_desk_set_shares(new, shares);
     let begun = hubqr::sectors::hubqr_desk_begin(set.desk);
-    let load = hubqr::sectors::hubqr_desk_load(begun.desk, sector, bytes, area);
-    let run = hubqr::sectors::hubqr_desk_run(load.desk, sector, 120, area);
+    let first = hubqr::sectors::hubqr_desk_hand_in(begun.desk, sector, bytes, area);
+    let early = hubqr::sectors::hubqr_desk_hand_in(first.desk, sector, next, area);
+    let run = hubqr::sectors::hubqr_desk_run(early.desk, sector, 120, area);
     let fetch = hubqr::sectors::hubqr_desk_fetch(run.desk, sector, area, buffer);
     ServedReply {
         set,
         begun,
-        load,
+        first,
+        early,
         run,
         fetch,
     }

@@ -1,6 +1,6 @@
 -- The desk, and its calls: what each answers and leaves in every lent buffer, on all inputs.
 pub mod Desk
-pub mod Load
+pub mod HandIn
 pub mod Run
 pub mod Fetch
 pub mod Heard

@@ -1,14 +1,34 @@
-// Fetch for a sector.
+// Fetch for a sector; once it succeeds, the matrix that waits is loaded in the place of the one that was fetched.
 use crate::Desk;
 use crate::DeskReply;
 use crate::sector::job_at;
+use crate::sector::seated;
 use crate::sector::sector_refusal;
+use crate::waiting::take_waiting;
+use crate::waiting::waits_at;
 ghost use mathlib.Core.Path.{_≡_};
-ghost use Rattle.desk.specs.Fetch.{DeskFetchOutcome, deskFetchOf};
+ghost use Prim.Native.Nat.{_<_, _≤_};
+ghost use lib.ListN.{length};
+ghost use Rattle.workspace.specs.Workspace.{workspaceWords};
+ghost use Rattle.desk.specs.Desk.{sectorCount, waitsAt, Loaded};
+ghost use Rattle.desk.specs.Fetch.{broughtIn, DeskFetchOutcome, deskFetchOf};
 
-// Writes the result record of a sector's finished job, or refuses and changes nothing.
-pub fn fetch(desk: Desk, sector: u32, area: &[i32], buffer: &mut [u8]) -> DeskReply
-    ensures { λ r. ⌜ record { reply = r; buffer = now (buffer .exit) } ≡ deskFetchOf desk sector (now (area .entry)) (now (buffer .entry)) ⌝ }
+// After a Fetch that succeeded.
+fn bring_in(desk: Desk, sector: u32, area: &mut [i32]) -> Desk
+    requires { ⌜ (sector < sectorCount) × (workspaceWords ≤ length (now area)) ⌝ }
+    ensures { λ r. ⌜ record { desk = r; area = now (area .exit) } ≡ broughtIn (waitsAt desk sector) desk sector (now (area .entry)) ⌝ }
+{
+    if !waits_at(desk, sector) {
+        return desk;
+    }
+    let records = desk.records;
+    let heard = take_waiting(records, sector, area);
+    seated(desk, sector, heard)
+}
+
+// Writes the result record of a sector's finished job and brings in the matrix that waits, or refuses and changes nothing.
+pub fn fetch(desk: Desk, sector: u32, area: &mut [i32], buffer: &mut [u8]) -> DeskReply
+    ensures { λ r. ⌜ record { reply = r; area = now (area .exit); buffer = now (buffer .exit) } ≡ deskFetchOf desk sector (now (area .entry)) (now (buffer .entry)) ⌝ }
 {
     let refused = sector_refusal(sector);
     if refused != 0 {
@@ -18,5 +38,12 @@ pub fn fetch(desk: Desk, sector: u32, area: &[i32], buffer: &mut [u8]) -> DeskRe
         };
     }
     let number = engine::fetch::fetch(job_at(desk, sector), area, buffer);
-    DeskReply { desk, number }
+    if number != 0 {
+        return DeskReply { desk, number };
+    }
+    let after = bring_in(desk, sector, area);
+    DeskReply {
+        desk: after,
+        number: 0,
+    }
 }

@@ -40,14 +40,15 @@ pub fn left_at(desk: Desk, sector: u32) -> u16
     left[sector as usize]
 }
 
-// The sector has this job and this heard byte.
-pub fn seated(desk: Desk, sector: u32, job: Job, heard: u8) -> Desk
+// The sector has the job (0, 0) and this heard byte, and no matrix of its own waits.
+pub fn seated(desk: Desk, sector: u32, heard: u8) -> Desk
     requires { ⌜ sector < sectorCount ⌝ }
-    ensures { λ r. ⌜ r ≡ seated desk sector job heard ⌝ }
+    ensures { λ r. ⌜ r ≡ seated desk sector heard ⌝ }
 {
     let mut seated = desk;
-    seated.jobs[sector as usize] = job;
+    seated.jobs[sector as usize] = Job { turn: 0, made: 0 };
     seated.heard[sector as usize] = heard;
+    seated.waits[sector as usize] = 0;
     seated
 }
 

@@ -4,19 +4,21 @@ use mathlib.Core.List.{List, [], _∷_, _++_}
 use Prim.Native.Nat.{ℕ, zero, suc, _+_, _-_, _*_, _≤_, _<_, min}
 use native.Mathlib.Nat.{div-add-mod', mod-lt, mul-le-mul-right, suc-mul, zero-mul}
 use native.Mathlib.Omega.{arith}
+use lib.IntN.{ℤ}
 use lib.ListN.{length}
 use Rattle.lists.specs.Histories.{afterAll}
 use Rattle.lists.proofs.Histories.{after-append, Along, along-of, along-first, along-rest}
-use Rattle.engine.specs.Load.{loadBy}
 use Rattle.engine.specs.Run.{nextJob, runDone}
 use Rattle.engine.proofs.Accepted.{PossibleJob, run-passes}
 use Rattle.engine.proofs.Taken.{possible-next}
 use Rattle.desk.specs.Desk.{jobAt}
 use Rattle.desk.proofs.Accepted.{left-passes}
-use Rattle.desk_laws.specs.Calls.{Lent, Call, load, run, begin, Hub, new, lentWords, Answer, next, after}
+use Rattle.desk_laws.specs.Calls.{Lent, Call, run, begin, Hub, new, lentWords, next, after}
+use Rattle.desk_laws.specs.Ledger.{ledger}
 use Rattle.desk_laws.specs.Finish.{Undisturbed, EachUndisturbed, Requests, inRounds, EachRequests, roundedUp, FinishesInTime}
-use Rattle.desk_laws.proofs.Seats.{Seat, seat, Eight, loadSeat, runSeat, loadNumber, runNumber, seatGrant, loadAnswer, own-kind, own-answer, own-next, refilled, seat-next, eight-next, eight-after, eight-new}
+use Rattle.desk_laws.proofs.Seats.{Seat, seat, Eight, loadedSeat, runSeat, runNumber, seatGrant, seatLent, own-kind, own-loads, own-next, refilled, seat-next, eight-next, eight-after, eight-new}
 use Rattle.desk_laws.proofs.Steady.{Steady, steady-next}
+use Rattle.desk_laws.proofs.Ledgers.{own-loading, noted-all}
 
 -- ---- call by call
 
@@ -25,11 +27,11 @@ abbrev HasShare : ℕ → Seat → Type 0
 HasShare s a = a .share ≡ s
 
 module _ (i s : ℕ) (small : i < 8) (P : Seat → Type 0) (r : Steady (HasShare s) P) where
-  steady-after : (h : Hub) (calls : List Call) → Eight (h .desk) → Along next (Undisturbed i s) h calls → P (seat i h) → P (seat i (after h calls))
+  undisturbed-after : (h : Hub) (calls : List Call) → Eight (h .desk) → Along next (Undisturbed i s) h calls → P (seat i h) → P (seat i (after h calls))
   unfolding Along afterAll
-  steady-after h [] w u x = x
-  steady-after h (c ∷ calls) w u x =
-      steady-after (next h c) calls (eight-next h c w) (u .1) (steady-next (HasShare s) P r i small h c w (u .0 .not-loaded) (u .0 .share) x)
+  undisturbed-after h [] w u x = x
+  undisturbed-after h (c ∷ calls) w u x =
+      undisturbed-after (next h c) calls (eight-next h c w) (u .1) (steady-next (HasShare s) P r i small h c w (u .0 .not-loaded) (u .0 .share) x)
 
 -- ---- how far a sector is
 
@@ -61,6 +63,7 @@ held-ran n s (suc k) request a lent x = x
 grown-steady : (s n : ℕ) → Steady (HasShare s) (Grown n)
 grown-steady s n = record {
   ran = λ k request a lent x. grown-ran n k request a lent x;
+  kept = λ rec a e x. record { from = x .from; possible = x .possible };
   began = λ a e x. record { from = x .from; possible = x .possible };
   set = λ t a x. record { from = x .from; possible = x .possible };
 }
@@ -71,6 +74,7 @@ held-begun n s a e x = record { grown = record { from = x .from; possible = x .p
 held-steady : (s n : ℕ) → Steady (HasShare s) (Held n s)
 held-steady s n = record {
   ran = λ k request a lent x. held-ran n s k request a lent x;
+  kept = λ rec a e x. record { grown = record { from = x .grown .from; possible = x .grown .possible }; reach = x .reach; few = x .few };
   began = λ a e x. held-begun n s a e (x .grown);
   set = λ t a x. record { grown = record { from = x .grown .from; possible = x .grown .possible }; reach = x .reach; few = x .few };
 }
@@ -114,10 +118,10 @@ module _ (i s : ℕ) (small : i < 8) where
       let v′ : Along next (Undisturbed i s) m (c ∷ p .rest) = along-rest next (Undisturbed i s) b (p .before) (c ∷ p .rest) v in
       let begun : Held n s (seat i b) = subst (Held n s) (sym (seat-next h i small w begin)) (held-begun n s (seat i h) (u .0 .share refl) x) in
       let held : Held n s (seat i m) =
-      steady-after i s small (Held n s) (held-steady s n) b (p .before) w′ (along-first next (Undisturbed i s) b (p .before) (c ∷ p .rest) v) begun in
+      undisturbed-after i s small (Held n s) (held-steady s n) b (p .before) w′ (along-first next (Undisturbed i s) b (p .before) (c ∷ p .rest) v) begun in
       let asked : Grown (min (n + s) 120) (seat i (next m c)) =
       subst (Grown (min (n + s) 120)) (sym (own-next m i small w″ c (own-kind i))) (by-left n s (r .request) (r .enough) (seat i m) (r .lent) (r .room) held (seat i m .left) refl) in
-      let end = steady-after i s small (Grown (min (n + s) 120)) (grown-steady s (min (n + s) 120)) (next m c) (p .rest) (eight-next m c w″) (v′ .1) asked in
+      let end = undisturbed-after i s small (Grown (min (n + s) 120)) (grown-steady s (min (n + s) 120)) (next m c) (p .rest) (eight-next m c w″) (v′ .1) asked in
       subst (λ (g : Hub). Grown (min (n + s) 120) (seat i g)) (sym (ap (after b) (p .is) ∙ after-append next b (p .before) (c ∷ p .rest))) end
 
   all-rounds : (n : ℕ) (h : Hub) (rounds : List (List Call)) → Eight (h .desk) → Along next (Undisturbed i s) h (inRounds rounds) → EachRequests i s h rounds
@@ -143,24 +147,21 @@ rounds-suffice s m h e =
 
 -- ---- the law
 
--- an accepted Load leaves it at the start
-loaded-grown : (a : Seat) (rec : List ℕ) (lent : Lent) (n : ℕ) → loadAnswer n rec (lentWords (a .area) lent) .number ≡ 0 → Grown 0 (loadSeat n a rec lent)
-unfolding loadBy
-loaded-grown a rec lent zero e = record { from = omega arith; possible = record { turn = omega arith; made = omega arith } }
-loaded-grown a rec lent (suc n) e = absurd (omega (arith, e))
+-- a load leaves it at the start
+loaded-grown : (a : Seat) (rec : List ℕ) (l : List ℤ) → Grown 0 (loadedSeat a rec l)
+loaded-grown a rec l = record { from = omega arith; possible = record { turn = omega arith; made = omega arith } }
 
 pub finishes-in-time : FinishesInTime
 unfolding EachUndisturbed
-finishes-in-time i s areas before rec lent rest rounds small positive loaded u r e =
+finishes-in-time i s areas before c rest rounds small positive loaded u r e =
     let h = after (new areas) before in
-    let c = load i rec lent in
     let g = next h c in
     let w = eight-after (new areas) before (eight-new areas) in
     let w′ = eight-next h c w in
     let v = along-of next (Undisturbed i s) g (rest ++ inRounds rounds) u in
-    let n = ap (λ (a : Answer). a .number) (own-answer h i small w c (own-kind i)) in
-    let x : Grown 0 (seat i g) = subst (Grown 0) (sym (own-next h i small w c (own-kind i))) (loaded-grown (seat i h) rec lent (loadNumber (seat i h) rec lent) (sym n ∙ loaded)) in
-    let y = steady-after i s small (Grown 0) (grown-steady s 0) g rest w′ (along-first next (Undisturbed i s) g rest (inRounds rounds) v) x in
+    let o = own-loading (ledger i areas before) (seat i h) (noted-all i small areas before) c (sym (own-loads h i small w c (loaded .0)) ∙ loaded .1) in
+    let x : Grown 0 (seat i g) = subst (Grown 0) (sym (own-next h i small w c (loaded .0) ∙ o .is)) (loaded-grown (seat i h) (o .rec) (seatLent (seat i h) c)) in
+    let y = undisturbed-after i s small (Grown 0) (grown-steady s 0) g rest w′ (along-first next (Undisturbed i s) g rest (inRounds rounds) v) x in
     let z = all-rounds i s small 0 (after g rest) rounds (eight-after g rest w′) (along-rest next (Undisturbed i s) g rest (inRounds rounds) v) r y in
     let f = rounds-suffice s (length rounds) positive e in
     ap (λ (k : Hub). jobAt (k .desk) i .turn) (after-append next g rest (inRounds rounds)) ∙ done (z .from) (z .possible .turn) f

@@ -64,6 +64,8 @@ isolation i areas areas′ calls calls′ small same seen =
       stands = ap aloneOf s;
       share = ap (λ (a : Seat). a .share) s;
       left = ap (λ (a : Seat). a .left) s;
+      waits = ap (λ (a : Seat). a .waits) s;
+      waiting = ap (λ (a : Seat). a .waiting) s;
     }
 
 -- ---- what is not seen
@@ -92,7 +94,7 @@ pub others-unseen : OthersUnseen
 others-unseen i j d =
     let e : ownOr i j ≡ other = rw (ne-eqb j i (λ q. d (sym q))) in
     record {
-      load = λ rec lent. e;
+      hand-in = λ rec lent. e;
       run = λ request lent. e;
       fetch = λ buffer lent. e;
       heard = e;

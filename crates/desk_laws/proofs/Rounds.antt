@@ -15,31 +15,37 @@ use Rattle.lists.specs.Histories.{afterAll}
 use Rattle.refusals.proofs.Refusals.{if-passed}
 use Rattle.engine.specs.Run.{runDone}
 use Rattle.desk.specs.declared.Desk.{Desk}
-use Rattle.desk.specs.Desk.{sectorTest, shareAt, leftAt, beginOf}
-use Rattle.desk.specs.Load.{deskLoadRefusal, deskLoadBy, deskLoadOf}
+use Rattle.desk.specs.Desk.{sectorTest, shareAt, leftAt, waitsAt, beginOf}
+use Rattle.desk.specs.HandIn.{handInRefusal, mustWait, handInBy, handInOf}
 use Rattle.desk.specs.Run.{deskRunRefusal, deskRunDone, deskRunBy, deskRunOf}
-use Rattle.desk.specs.Fetch.{deskFetchBy, deskFetchOf}
+use Rattle.desk.specs.Fetch.{deskFetchRefusal, deskFetchBy, deskFetchOf}
 use Rattle.desk.specs.Heard.{deskHeardOf}
 use Rattle.desk.specs.Shares.{totalOf, sharesTest, setSharesBy, setSharesOf}
-use Rattle.desk_laws.specs.Calls.{Lent, Call, load, run, fetch, heard, begin, setShares, Hub, new, lentWords, Answer, answer, next, after, Kind, own, other, round, setting, ownOr, settingBy, kind}
+use Rattle.desk_laws.specs.Calls.{Lent, Call, handIn, run, fetch, heard, begin, setShares, Hub, new, lentWords, Answer, answer, next, after, Kind, own, other, round, setting, ownOr, settingBy, kind}
 use Rattle.desk_laws.specs.Rounds.{tallied, grantedIn, startingAt, startingIn, grantedSoFar, startingShare, RoundTotal}
-use Rattle.desk_laws.proofs.Seats.{Seat, seat, Eight, loadSeat, runSeat, loadNumber, runNumber, seatGrant, ownNext, loadAnswer, runAnswer, ownAnswer, own-answer, loadHub, runHub, heard-desk, step, seat-next, eight-next, eight-new}
+use Rattle.desk_laws.proofs.Seats.{Seat, seat, Eight, handSeat, runSeat, fetchSeat, handNumber, seatMustWait, runNumber, fetchNumber, seatGrant, ownNext, handAnswer, runAnswer, fetchAnswer, ownAnswer, own-answer, handHub, runHub, fetchHub, heard-desk, step, seat-next, eight-next, eight-new}
 
 -- ---- a sector by itself: each call that grants takes as much from its count
 
-load-paid : (a : Seat) (rec : List ℕ) (lent : Lent) (l : List ℤ) (n : ℕ) → loadAnswer n rec l .count + loadSeat n a rec lent .left ≡ a .left
-load-paid a rec lent l zero = omega arith
-load-paid a rec lent l (suc n) = omega arith
+hand-paid : (a : Seat) (rec : List ℕ) (lent : Lent) (l : List ℤ) (n : ℕ) (must : Bool) → handAnswer n must a rec l .count + handSeat n must a rec lent .left ≡ a .left
+hand-paid a rec lent l zero true = omega arith
+hand-paid a rec lent l zero false = omega arith
+hand-paid a rec lent l (suc n) must = omega arith
 
 run-paid : (a : Seat) (request : ℕ) (lent : Lent) (l : List ℤ) (n : ℕ) → runAnswer n (a .job) (seatGrant a request) l .count + runSeat n a (seatGrant a request) lent .left ≡ a .left
 unfolding runDone
 run-paid a request lent l zero = omega arith
 run-paid a request lent l (suc n) = omega arith
 
+fetch-paid : (a : Seat) (buffer : List ℕ) (lent : Lent) (l : List ℤ) (n : ℕ) (waits : Bool) → fetchAnswer n waits (a .waiting) l buffer .count + fetchSeat n waits a lent .left ≡ a .left
+fetch-paid a buffer lent l zero true = omega arith
+fetch-paid a buffer lent l zero false = omega arith
+fetch-paid a buffer lent l (suc n) waits = omega arith
+
 own-paid : (a : Seat) (c : Call) → ownAnswer a c .count + ownNext a c .left ≡ a .left
-own-paid a (load j rec lent) = load-paid a rec lent (lentWords (a .area) lent) (loadNumber a rec lent)
+own-paid a (handIn j rec lent) = hand-paid a rec lent (lentWords (a .area) lent) (handNumber a rec lent) (seatMustWait a)
 own-paid a (run j request lent) = run-paid a request lent (lentWords (a .area) lent) (runNumber a request lent)
-own-paid a (fetch j buffer lent) = omega arith
+own-paid a (fetch j buffer lent) = fetch-paid a buffer lent (lentWords (a .area) lent) (fetchNumber a buffer lent) (a .waits)
 own-paid a (heard j) = omega arith
 own-paid a begin = omega arith
 own-paid a (setShares shares eight) = omega arith
@@ -89,15 +95,22 @@ module _ (d d′ : Desk) (start : ℕ → ℕ) (x : Within120 d start) where
   within-same : totalOf (d′ .shares) ≤ 120 → (f : ℕ → ℕ) → ((i : ℕ) → f i ≡ start i) → Within120 d′ f
   within-same s f same = record { shares = s; starting = subst (λ (n : ℕ). n ≤ 120) (sym (total-same 8 f start (λ i p. same i))) (x .starting) }
 
-load-shares : (h : Hub) (j : ℕ) (rec : List ℕ) (lent : Lent) (n : ℕ) → loadHub h j rec lent n .desk .shares ≡ h .desk .shares
-unfolding deskLoadBy
-load-shares h j rec lent zero = refl
-load-shares h j rec lent (suc n) = refl
+hand-shares : (h : Hub) (j : ℕ) (rec : List ℕ) (lent : Lent) (n : ℕ) (must : Bool) → handHub h j rec lent n must .desk .shares ≡ h .desk .shares
+unfolding handInBy
+hand-shares h j rec lent zero true = refl
+hand-shares h j rec lent zero false = refl
+hand-shares h j rec lent (suc n) must = refl
 
 run-shares : (h : Hub) (j request : ℕ) (lent : Lent) (n : ℕ) → runHub h j request lent n .desk .shares ≡ h .desk .shares
 unfolding deskRunBy deskRunDone
 run-shares h j request lent zero = refl
 run-shares h j request lent (suc n) = refl
+
+fetch-shares : (h : Hub) (j : ℕ) (buffer : List ℕ) (lent : Lent) (n : ℕ) (waits : Bool) → fetchHub h j buffer lent n waits .desk .shares ≡ h .desk .shares
+unfolding deskFetchBy
+fetch-shares h j buffer lent zero true = refl
+fetch-shares h j buffer lent zero false = refl
+fetch-shares h j buffer lent (suc n) waits = refl
 
 set-shares-total : (d : Desk) (shares : List ℕ) (n : ℕ) → (n ≡ 0 → totalOf shares ≤ 120) → totalOf (d .shares) ≤ 120 → totalOf (setSharesBy n d shares .desk .shares) ≤ 120
 unfolding setSharesBy
@@ -105,14 +118,16 @@ set-shares-total d shares zero f x = f refl
 set-shares-total d shares (suc n) f x = x
 
 within-next : (h : Hub) (c : Call) (start : ℕ → ℕ) → Within120 (h .desk) start → Within120 (next h c .desk) (λ i. startingAt (kind i c) (start i) (shareAt (h .desk) i))
-unfolding next deskLoadOf deskRunOf deskFetchOf deskFetchBy deskHeardOf beginOf setSharesOf
-within-next h (load j rec lent) start x =
-    let e = load-shares h j rec lent (deskLoadRefusal j rec (lentWords (h .area j) lent)) in
+unfolding next handInOf deskRunOf deskFetchOf deskHeardOf beginOf setSharesOf
+within-next h (handIn j rec lent) start x =
+    let e = hand-shares h j rec lent (handInRefusal j rec (lentWords (h .area j) lent)) (mustWait (h .desk) j) in
     within-same (h .desk) _ start x (subst (λ (l : List ℕ). totalOf l ≤ 120) (sym e) (x .shares)) _ (λ i. same-own i j (start i) (shareAt (h .desk) i))
 within-next h (run j request lent) start x =
     let e = run-shares h j request lent (deskRunRefusal (h .desk) j request (lentWords (h .area j) lent)) in
     within-same (h .desk) _ start x (subst (λ (l : List ℕ). totalOf l ≤ 120) (sym e) (x .shares)) _ (λ i. same-own i j (start i) (shareAt (h .desk) i))
-within-next h (fetch j buffer lent) start x = within-same (h .desk) _ start x (x .shares) _ (λ i. same-own i j (start i) (shareAt (h .desk) i))
+within-next h (fetch j buffer lent) start x =
+    let e = fetch-shares h j buffer lent (deskFetchRefusal (h .desk) j (lentWords (h .area j) lent) buffer) (waitsAt (h .desk) j) in
+    within-same (h .desk) _ start x (subst (λ (l : List ℕ). totalOf l ≤ 120) (sym e) (x .shares)) _ (λ i. same-own i j (start i) (shareAt (h .desk) i))
 within-next h (heard j) start x =
     let e = heard-desk (sectorTest j) (h .desk) j in
     within-same (h .desk) _ start x (subst (λ (d : Desk). totalOf (d .shares) ≤ 120) (sym e) (x .shares)) _ (λ i. same-own i j (start i) (shareAt (h .desk) i))

@@ -1,65 +1,101 @@
 -- A sector by itself: what its own calls make of it, a round that begins and a share that it is given; the calls of others leave it as it is. Assumes nothing.
 use mathlib.Core.Path.{_≡_, refl, sym, ap, _∙_, subst}
-use mathlib.Core.Bool.{Bool, true, false, cond}
+use mathlib.Core.Bool.{Bool, true, false, not, _||_, cond}
 use mathlib.Core.List.{List, [], _∷_}
-use Prim.Native.Nat.{ℕ, zero, suc, _-_, _<_}
+use Prim.Native.Nat.{ℕ, zero, suc, _-_, _*_, _<_}
 use native.Mathlib.Omega.{arith}
 use borrow.Author.Tests.{eq-eqb, ne-eqb, eqb-true, eqb-false}
-use lib.Dec.{eqb}
+use lib.Dec.{ltb, eqb}
 use lib.IntN.{ℤ}
-use lib.ListN.{length, getD, length-set}
-use lib.Seq.{getD-set-same, getD-set-other}
+use lib.ListN.{length, getD, length-set, length-replicate}
+use lib.Seq.{getD-set-same, getD-set-other, length-paste}
 use Rattle.lists.specs.Histories.{afterAll}
 use Rattle.refusals.specs.Refusals.{first}
+use Rattle.refusals.proofs.Refusals.{first-none}
+use Rattle.matrix_record.specs.MatrixRecord.{heardByte}
+use Rattle.workspace.specs.Loading.{loadedWords}
 use Rattle.engine.specs.declared.job.Job.{Job}
-use Rattle.engine.specs.Job.{noJob}
-use Rattle.engine.specs.Load.{loadRefusal, loadBy}
+use Rattle.engine.specs.Job.{loadedJob, noJob}
+use Rattle.engine.specs.Load.{loadRefusal}
 use Rattle.engine.specs.Run.{runRefusal, runDone}
 use Rattle.engine.specs.Fetch.{fetchRefusal, fetchBy}
+use Rattle.engine.proofs.Accepted.{load-accepted}
 use Rattle.desk.specs.declared.Desk.{Desk}
-use Rattle.desk.specs.Desk.{sectorTest, jobAt, heardAt, shareAt, leftAt, beginOf}
-use Rattle.desk.specs.Load.{deskLoadRefusal, deskLoadBy, deskLoadOf}
+use Rattle.desk.specs.Desk.{sectorTest, jobAt, heardAt, shareAt, leftAt, waitsAt, waitingAt, seated, beginOf}
+use Rattle.desk.specs.HandIn.{handInRefusal, mustWait, handInBy, handInOf}
 use Rattle.desk.specs.Run.{countTest, deskRunRefusal, grant, deskRunDone, deskRunBy, deskRunOf}
 use Rattle.desk.specs.Fetch.{deskFetchRefusal, deskFetchBy, deskFetchOf}
 use Rattle.desk.specs.Heard.{deskHeardBy, deskHeardOf}
 use Rattle.desk.specs.Shares.{sharesTest, setSharesBy, setSharesOf}
-use Rattle.desk.proofs.Accepted.{sector-passes}
-use Rattle.desk_laws.specs.Calls.{Lent, its, another, Call, load, run, fetch, heard, begin, setShares, Hub, new, lentWords, leftIn, put, Answer, bare, answer, next, after, Kind, own, other, round, setting, ownOr, settingBy, kind}
+use Rattle.desk.proofs.Accepted.{sector-passed, sector-passes}
+use Rattle.desk_laws.specs.Calls.{Lent, its, another, Call, handIn, run, fetch, heard, begin, setShares, Hub, new, lentWords, leftIn, put, loadsIf, loads, Answer, bare, answer, next, after, Kind, own, other, round, setting, ownOr, settingBy, kind}
+use Rattle.desk_laws.specs.Refusals.{wordsLent}
+use Rattle.desk_laws.proofs.Records.{record-same, record-other}
 
 pub record Seat : Type 0 where
   pub job : Job
   pub heard : ℕ
   pub share : ℕ
   pub left : ℕ
+  pub waits : Bool
+  pub waiting : List ℕ
   pub area : List ℤ
 
 abbrev pub seat : ℕ → Hub → Seat
-seat i h = record { job = jobAt (h .desk) i; heard = heardAt (h .desk) i; share = shareAt (h .desk) i; left = leftAt (h .desk) i; area = h .area i }
+seat i h =
+    let d = h .desk in
+    record { job = jobAt d i; heard = heardAt d i; share = shareAt d i; left = leftAt d i; waits = waitsAt d i; waiting = waitingAt d i; area = h .area i }
 
--- arrays of eight, as a desk from a new one on has them
+-- arrays of eight, and the records of eight, as a desk from a new one on has them
 pub record Eight (d : Desk) : Type 0 where
   pub jobs : length (d .jobs) ≡ 8
   pub heard : length (d .heard) ≡ 8
   pub shares : length (d .shares) ≡ 8
   pub left : length (d .left) ≡ 8
+  pub waits : length (d .waits) ≡ 8
+  pub records : length (d .records) ≡ 2056
 
 -- ---- the sector's own calls, by itself
 
--- by its number
-abbrev pub loadSeat : ℕ → Seat → List ℕ → Lent → Seat
-loadSeat zero a rec lent =
-    let o = loadBy 0 rec (lentWords (a .area) lent) in
-    record { job = o .reply .job; heard = o .reply .heard; share = a .share; left = a .left; area = leftIn (a .area) lent (o .workspace) }
-loadSeat (suc n) a rec lent = a
+abbrev pub keptSeat : Seat → List ℕ → Seat
+keptSeat a rec =
+    record { job = a .job; heard = a .heard; share = a .share; left = a .left; waits = true; waiting = rec; area = a .area }
+
+abbrev pub loadedSeat : Seat → List ℕ → List ℤ → Seat
+loadedSeat a rec l =
+    record { job = loadedJob; heard = heardByte rec; share = a .share; left = a .left; waits = false; waiting = a .waiting; area = loadedWords rec l }
+
+-- by its number, and by whether the matrix must wait
+abbrev pub handSeat : ℕ → Bool → Seat → List ℕ → Lent → Seat
+handSeat zero true a rec lent = keptSeat a rec
+handSeat zero false a rec lent = loadedSeat a rec (lentWords (a .area) lent)
+handSeat (suc n) must a rec lent = a
 
 abbrev pub runSeat : ℕ → Seat → ℕ → Lent → Seat
 runSeat zero a count lent =
     let o = runDone (a .job) count (lentWords (a .area) lent) in
-    record { job = o .reply .job; heard = a .heard; share = a .share; left = a .left - count; area = leftIn (a .area) lent (o .workspace) }
+    record {
+      job = o .reply .job;
+      heard = a .heard;
+      share = a .share;
+      left = a .left - count;
+      waits = a .waits;
+      waiting = a .waiting;
+      area = leftIn false (a .area) lent (o .workspace);
+    }
 runSeat (suc n) a count lent = a
 
-abbrev pub loadNumber : Seat → List ℕ → Lent → ℕ
-loadNumber a rec lent = loadRefusal rec (lentWords (a .area) lent)
+-- by its number, and by whether one waits
+abbrev pub fetchSeat : ℕ → Bool → Seat → Lent → Seat
+fetchSeat zero true a lent = loadedSeat a (a .waiting) (lentWords (a .area) lent)
+fetchSeat zero false a lent = a
+fetchSeat (suc n) waits a lent = a
+
+abbrev pub handNumber : Seat → List ℕ → Lent → ℕ
+handNumber a rec lent = loadRefusal rec (lentWords (a .area) lent)
+
+abbrev pub seatMustWait : Seat → Bool
+seatMustWait a = a .waits || ltb (a .job .turn) 120
 
 abbrev pub runNumber : Seat → ℕ → Lent → ℕ
 runNumber a request lent = first (runRefusal (a .job) (lentWords (a .area) lent)) (countTest (a .job) (a .left) request)
@@ -71,18 +107,37 @@ abbrev pub seatGrant : Seat → ℕ → ℕ
 seatGrant a request = grant (a .job) (a .left) request
 
 abbrev pub ownNext : Seat → Call → Seat
-ownNext a (load j rec lent) = loadSeat (loadNumber a rec lent) a rec lent
+ownNext a (handIn j rec lent) = handSeat (handNumber a rec lent) (seatMustWait a) a rec lent
 ownNext a (run j request lent) = runSeat (runNumber a request lent) a (seatGrant a request) lent
-ownNext a (fetch j buffer lent) = a
+ownNext a (fetch j buffer lent) = fetchSeat (fetchNumber a buffer lent) (a .waits) a lent
 ownNext a (heard j) = a
 ownNext a begin = a
 ownNext a (setShares shares eight) = a
 
-abbrev pub loadAnswer : ℕ → List ℕ → List ℤ → Answer
-loadAnswer zero rec l =
-    let o = loadBy 0 rec l in
-    record { number = 0; heard = o .reply .heard; job = o .reply .job; count = 0; clamps-r = 0; clamps-q = 0; buffer = []; words = o .workspace }
-loadAnswer (suc n) rec l = bare (suc n) [] l
+-- the words that it is lent
+abbrev pub seatLent : Seat → Call → List ℤ
+seatLent a (handIn j rec lent) = lentWords (a .area) lent
+seatLent a (run j request lent) = lentWords (a .area) lent
+seatLent a (fetch j buffer lent) = lentWords (a .area) lent
+seatLent a (heard j) = []
+seatLent a begin = []
+seatLent a (setShares shares eight) = []
+
+-- whether it loads the sector
+abbrev pub ownLoads : Seat → Call → Bool
+ownLoads a (handIn j rec lent) = loadsIf (handNumber a rec lent) (not (seatMustWait a))
+ownLoads a (run j request lent) = false
+ownLoads a (fetch j buffer lent) = loadsIf (fetchNumber a buffer lent) (a .waits)
+ownLoads a (heard j) = false
+ownLoads a begin = false
+ownLoads a (setShares shares eight) = false
+
+abbrev pub handAnswer : ℕ → Bool → Seat → List ℕ → List ℤ → Answer
+handAnswer zero true a rec l =
+    record { number = 0; heard = a .heard; job = a .job; count = 0; clamps-r = 0; clamps-q = 0; buffer = []; words = l }
+handAnswer zero false a rec l =
+    record { number = 0; heard = heardByte rec; job = loadedJob; count = 0; clamps-r = 0; clamps-q = 0; buffer = []; words = loadedWords rec l }
+handAnswer (suc n) must a rec l = bare (suc n) [] l
 
 abbrev pub runAnswer : ℕ → Job → ℕ → List ℤ → Answer
 runAnswer zero job count l =
@@ -91,21 +146,35 @@ runAnswer zero job count l =
     record { number = 0; heard = 0; job = r .job; count = r .count; clamps-r = r .«clamps_r»; clamps-q = r .«clamps_q»; buffer = []; words = o .workspace }
 runAnswer (suc n) job count l = bare (suc n) [] l
 
-abbrev pub fetchAnswer : ℕ → List ℤ → List ℕ → Answer
-fetchAnswer n l buffer = bare n (fetchBy n l buffer .buffer) l
+abbrev pub broughtWords : Bool → List ℕ → List ℤ → List ℤ
+broughtWords true rec l = loadedWords rec l
+broughtWords false rec l = l
+
+abbrev pub fetchAnswer : ℕ → Bool → List ℕ → List ℤ → List ℕ → Answer
+fetchAnswer zero waits rec l buffer = bare 0 (fetchBy 0 l buffer .buffer) (broughtWords waits rec l)
+fetchAnswer (suc n) waits rec l buffer = bare (suc n) buffer l
 
 abbrev pub heardAnswer : ℕ → Answer
 heardAnswer byte = record { number = 0; heard = byte; job = noJob; count = 0; clamps-r = 0; clamps-q = 0; buffer = []; words = [] }
 
 abbrev pub ownAnswer : Seat → Call → Answer
-ownAnswer a (load j rec lent) = loadAnswer (loadNumber a rec lent) rec (lentWords (a .area) lent)
+ownAnswer a (handIn j rec lent) = handAnswer (handNumber a rec lent) (seatMustWait a) a rec (lentWords (a .area) lent)
 ownAnswer a (run j request lent) = runAnswer (runNumber a request lent) (a .job) (seatGrant a request) (lentWords (a .area) lent)
-ownAnswer a (fetch j buffer lent) = fetchAnswer (fetchNumber a buffer lent) (lentWords (a .area) lent) buffer
+ownAnswer a (fetch j buffer lent) = fetchAnswer (fetchNumber a buffer lent) (a .waits) (a .waiting) (lentWords (a .area) lent) buffer
 ownAnswer a (heard j) = heardAnswer (a .heard)
 ownAnswer a begin = bare 0 [] []
 ownAnswer a (setShares shares eight) = bare 0 [] []
 
--- a Run answers its number
+-- each of them answers its number
+pub hand-number-is : (n : ℕ) (must : Bool) (a : Seat) (rec : List ℕ) (l : List ℤ) → handAnswer n must a rec l .number ≡ n
+hand-number-is zero true a rec l = refl
+hand-number-is zero false a rec l = refl
+hand-number-is (suc n) must a rec l = refl
+
+pub fetch-number-is : (n : ℕ) (waits : Bool) (rec : List ℕ) (l : List ℤ) (buffer : List ℕ) → fetchAnswer n waits rec l buffer .number ≡ n
+fetch-number-is zero waits rec l buffer = refl
+fetch-number-is (suc n) waits rec l buffer = refl
+
 pub run-number-is : (n : ℕ) (job : Job) (count : ℕ) (l : List ℤ) → runAnswer n job count l .number ≡ n
 run-number-is zero job count l = refl
 run-number-is (suc n) job count l = refl
@@ -121,7 +190,7 @@ unfolding put
 put-other areas i j l d = rw (ne-eqb i j d)
 
 -- what is lent to a call that leaves it as it was
-pub left-same : (area : List ℤ) (lent : Lent) → leftIn area lent (lentWords area lent) ≡ area
+pub left-same : (area : List ℤ) (lent : Lent) → leftIn false area lent (lentWords area lent) ≡ area
 left-same area its = refl
 left-same area (another m) = refl
 
@@ -140,6 +209,14 @@ own-if i j e = rw (eq-eqb j i e)
 pub own-kind : (i : ℕ) → ownOr i i ≡ own
 own-kind i = own-if i i refl
 
+pub lent-own : (h : Hub) (i : ℕ) (c : Call) → kind i c ≡ own → wordsLent h c ≡ seatLent (seat i h) c
+lent-own h i (handIn j rec lent) e = rw (own-is i j e)
+lent-own h i (run j request lent) e = rw (own-is i j e)
+lent-own h i (fetch j buffer lent) e = rw (own-is i j e)
+lent-own h i (heard j) e = refl
+lent-own h i begin e = refl
+lent-own h i (setShares shares eight) e = refl
+
 -- a setting is nobody's own
 not-own : (n s : ℕ) → settingBy n s ≡ own → ⊥
 not-own zero s e = let z : _≡_ {A = ℕ} 0 1 = cc in omega arith
@@ -147,19 +224,24 @@ not-own (suc n) s e = let z : _≡_ {A = ℕ} 0 1 = cc in omega arith
 
 -- ---- a call by the number that decides, at the hub
 
-abbrev pub loadHub : Hub → ℕ → List ℕ → Lent → ℕ → Hub
-loadHub h i rec lent n =
-    let o = deskLoadBy n (h .desk) i rec (lentWords (h .area i) lent) in
-    record { desk = o .reply .desk; area = put (h .area) i (leftIn (h .area i) lent (o .area)) }
+abbrev pub handHub : Hub → ℕ → List ℕ → Lent → ℕ → Bool → Hub
+handHub h i rec lent n must =
+    let o = handInBy n must (h .desk) i rec (lentWords (h .area i) lent) in
+    record { desk = o .reply .desk; area = put (h .area) i (leftIn (loadsIf n (not must)) (h .area i) lent (o .area)) }
 
 abbrev pub runHub : Hub → ℕ → ℕ → Lent → ℕ → Hub
 runHub h i request lent n =
     let o = deskRunBy n (h .desk) i request (lentWords (h .area i) lent) in
-    record { desk = o .reply .desk; area = put (h .area) i (leftIn (h .area i) lent (o .area)) }
+    record { desk = o .reply .desk; area = put (h .area) i (leftIn false (h .area i) lent (o .area)) }
 
-abbrev pub loadTold : Hub → ℕ → List ℕ → Lent → ℕ → Answer
-loadTold h i rec lent n =
-    let o = deskLoadBy n (h .desk) i rec (lentWords (h .area i) lent) in
+abbrev pub fetchHub : Hub → ℕ → List ℕ → Lent → ℕ → Bool → Hub
+fetchHub h i buffer lent n waits =
+    let o = deskFetchBy n waits (h .desk) i (lentWords (h .area i) lent) buffer in
+    record { desk = o .reply .desk; area = put (h .area) i (leftIn (loadsIf n waits) (h .area i) lent (o .area)) }
+
+abbrev pub handTold : Hub → ℕ → List ℕ → Lent → ℕ → Bool → Answer
+handTold h i rec lent n must =
+    let o = handInBy n must (h .desk) i rec (lentWords (h .area i) lent) in
     let r = o .reply in
     record { number = r .number; heard = r .heard; job = r .job; count = 0; clamps-r = 0; clamps-q = 0; buffer = []; words = o .area }
 
@@ -169,11 +251,10 @@ runTold h i request lent n =
     let r = o .reply in
     record { number = r .number; heard = 0; job = r .job; count = r .count; clamps-r = r .«clamps_r»; clamps-q = r .«clamps_q»; buffer = []; words = o .area }
 
-abbrev pub fetchTold : Hub → ℕ → List ℕ → Lent → ℕ → Answer
-fetchTold h i buffer lent n =
-    let l = lentWords (h .area i) lent in
-    let o = deskFetchBy n (h .desk) l buffer in
-    bare (o .reply .number) (o .buffer) l
+abbrev pub fetchTold : Hub → ℕ → List ℕ → Lent → ℕ → Bool → Answer
+fetchTold h i buffer lent n waits =
+    let o = deskFetchBy n waits (h .desk) i (lentWords (h .area i) lent) buffer in
+    bare (o .reply .number) (o .buffer) (o .area)
 
 abbrev pub heardTold : Hub → ℕ → ℕ → Answer
 heardTold h i n =
@@ -190,6 +271,15 @@ heard-desk (suc n) d j = refl
 pub sector-first : (i n : ℕ) → i < 8 → first (sectorTest i) n ≡ n
 sector-first i n small = rw (sector-passes i small)
 
+-- a record that passes the tests has 257 bytes, and is for one of eight sectors
+sized : (j : ℕ) (rec : List ℕ) (l : List ℤ) → handInRefusal j rec l ≡ 0 → length rec ≡ 257
+unfolding handInRefusal
+sized j rec l z = load-accepted rec l (first-none (sectorTest j) _ z .1) .header .sized
+
+known : (j : ℕ) (rec : List ℕ) (l : List ℤ) → handInRefusal j rec l ≡ 0 → j < 8
+unfolding handInRefusal
+known j rec l z = sector-passed j (first-none (sectorTest j) _ z .0)
+
 module _ (h : Hub) (i : ℕ) (small : i < 8) (w : Eight (h .desk)) where
   in-jobs : i < length (h .desk .jobs)
   in-jobs = omega (arith, w .jobs)
@@ -200,74 +290,120 @@ module _ (h : Hub) (i : ℕ) (small : i < 8) (w : Eight (h .desk)) where
   in-left : i < length (h .desk .left)
   in-left = omega (arith, w .left)
 
-  load-seat : (rec : List ℕ) (lent : Lent) (n : ℕ) → seat i (loadHub h i rec lent n) ≡ loadSeat n (seat i h) rec lent
-  unfolding deskLoadBy
-  load-seat rec lent zero = rw (getD-set-same (h .desk .jobs) i _ noJob in-jobs, getD-set-same (h .desk .heard) i _ 0 in-heard, put-same)
-  load-seat rec lent (suc n) = rw (put-same, left-same)
+  in-waits : i < length (h .desk .waits)
+  in-waits = omega (arith, w .waits)
+
+  hand-seat : (rec : List ℕ) (lent : Lent) (n : ℕ) (must : Bool) → (n ≡ 0 → length rec ≡ 257) → seat i (handHub h i rec lent n must) ≡ handSeat n must (seat i h) rec lent
+  unfolding handInBy
+  hand-seat rec lent zero true z =
+      rw (getD-set-same (h .desk .waits) i 1 0 in-waits, record-same (h .desk .records) rec i (w .records) (z refl) small, put-same, left-same)
+  hand-seat rec lent zero false z =
+      rw (getD-set-same (h .desk .jobs) i _ noJob in-jobs, getD-set-same (h .desk .heard) i _ 0 in-heard, getD-set-same (h .desk .waits) i 0 0 in-waits, put-same)
+  hand-seat rec lent (suc n) must z = rw (put-same, left-same)
 
   run-seat : (request : ℕ) (lent : Lent) (n : ℕ) → seat i (runHub h i request lent n) ≡ runSeat n (seat i h) (seatGrant (seat i h) request) lent
   unfolding deskRunBy deskRunDone
   run-seat request lent zero = rw (getD-set-same (h .desk .jobs) i _ noJob in-jobs, getD-set-same (h .desk .left) i _ 0 in-left, put-same)
   run-seat request lent (suc n) = rw (put-same, left-same)
 
+  fetch-seat : (buffer : List ℕ) (lent : Lent) (n : ℕ) (waits : Bool) → seat i (fetchHub h i buffer lent n waits) ≡ fetchSeat n waits (seat i h) lent
+  unfolding deskFetchBy
+  fetch-seat buffer lent zero true =
+      rw (getD-set-same (h .desk .jobs) i _ noJob in-jobs, getD-set-same (h .desk .heard) i _ 0 in-heard, getD-set-same (h .desk .waits) i 0 0 in-waits, put-same)
+  fetch-seat buffer lent zero false = rw (put-same, left-same)
+  fetch-seat buffer lent (suc n) waits = rw (put-same, left-same)
+
   pub own-next : (c : Call) → kind i c ≡ own → seat i (next h c) ≡ ownNext (seat i h) c
-  unfolding next deskLoadOf deskLoadRefusal deskRunOf deskRunRefusal deskFetchOf deskFetchBy deskHeardOf
-  own-next (load j rec lent) e =
-      let n = loadNumber (seat i h) rec lent in
-      rw (own-is i j e) (ap (λ (k : ℕ). seat i (loadHub h i rec lent k)) (sector-first i n small) ∙ load-seat rec lent n)
+  unfolding next handInOf handInRefusal mustWait deskRunOf deskRunRefusal deskFetchOf deskFetchRefusal deskHeardOf
+  own-next (handIn j rec lent) e =
+      let n = handNumber (seat i h) rec lent in
+      let f : n ≡ 0 → length rec ≡ 257 = λ z. sized i rec (lentWords (h .area i) lent) (sector-first i n small ∙ z) in
+      rw (own-is i j e) (ap (λ (k : ℕ). seat i (handHub h i rec lent k (seatMustWait (seat i h)))) (sector-first i n small) ∙ hand-seat rec lent n (seatMustWait (seat i h)) f)
   own-next (run j request lent) e =
       let n = runNumber (seat i h) request lent in
       rw (own-is i j e) (ap (λ (k : ℕ). seat i (runHub h i request lent k)) (sector-first i n small) ∙ run-seat request lent n)
-  own-next (fetch j buffer lent) e = refl
+  own-next (fetch j buffer lent) e =
+      let n = fetchNumber (seat i h) buffer lent in
+      rw (own-is i j e) (ap (λ (k : ℕ). seat i (fetchHub h i buffer lent k (waitsAt (h .desk) i))) (sector-first i n small) ∙ fetch-seat buffer lent n (waitsAt (h .desk) i))
   own-next (heard j) e = ap (λ (d : Desk). seat i (record { desk = d; area = h .area })) (heard-desk (sectorTest j) (h .desk) j)
   own-next begin e = absurd (let z : _≡_ {A = ℕ} 0 1 = cc in omega arith)
   own-next (setShares shares eight) e = absurd (not-own (sharesTest shares) (getD shares i 0) e)
 
-  load-told : (rec : List ℕ) (lent : Lent) (n : ℕ) → loadTold h i rec lent n ≡ loadAnswer n rec (lentWords (h .area i) lent)
-  unfolding deskLoadBy
-  load-told rec lent zero = refl
-  load-told rec lent (suc n) = refl
+  pub own-loads : (c : Call) → kind i c ≡ own → loads h c ≡ ownLoads (seat i h) c
+  unfolding handInRefusal mustWait deskFetchRefusal
+  own-loads (handIn j rec lent) e =
+      rw (own-is i j e) (ap (λ (k : ℕ). loadsIf k (not (seatMustWait (seat i h)))) (sector-first i (handNumber (seat i h) rec lent) small))
+  own-loads (run j request lent) e = refl
+  own-loads (fetch j buffer lent) e =
+      rw (own-is i j e) (ap (λ (k : ℕ). loadsIf k (waitsAt (h .desk) i)) (sector-first i (fetchNumber (seat i h) buffer lent) small))
+  own-loads (heard j) e = refl
+  own-loads begin e = refl
+  own-loads (setShares shares eight) e = refl
+
+  hand-told : (rec : List ℕ) (lent : Lent) (n : ℕ) (must : Bool) → handTold h i rec lent n must ≡ handAnswer n must (seat i h) rec (lentWords (h .area i) lent)
+  unfolding handInBy
+  hand-told rec lent zero true = refl
+  hand-told rec lent zero false = refl
+  hand-told rec lent (suc n) must = refl
 
   run-told : (request : ℕ) (lent : Lent) (n : ℕ) → runTold h i request lent n ≡ runAnswer n (jobAt (h .desk) i) (seatGrant (seat i h) request) (lentWords (h .area i) lent)
   unfolding deskRunBy deskRunDone
   run-told request lent zero = refl
   run-told request lent (suc n) = refl
 
+  fetch-told : (buffer : List ℕ) (lent : Lent) (n : ℕ) (waits : Bool) → fetchTold h i buffer lent n waits ≡ fetchAnswer n waits (waitingAt (h .desk) i) (lentWords (h .area i) lent) buffer
+  unfolding deskFetchBy
+  fetch-told buffer lent zero true = refl
+  fetch-told buffer lent zero false = refl
+  fetch-told buffer lent (suc n) waits = refl
+
   pub own-answer : (c : Call) → kind i c ≡ own → answer h c ≡ ownAnswer (seat i h) c
-  unfolding answer deskLoadOf deskLoadRefusal deskRunOf deskRunRefusal deskFetchOf deskFetchRefusal deskFetchBy deskHeardOf deskHeardBy
-  own-answer (load j rec lent) e =
-      let n = loadNumber (seat i h) rec lent in
-      rw (own-is i j e) (ap (loadTold h i rec lent) (sector-first i n small) ∙ load-told rec lent n)
+  unfolding answer handInOf handInRefusal mustWait deskRunOf deskRunRefusal deskFetchOf deskFetchRefusal deskHeardOf deskHeardBy
+  own-answer (handIn j rec lent) e =
+      let n = handNumber (seat i h) rec lent in
+      rw (own-is i j e) (ap (λ (k : ℕ). handTold h i rec lent k (seatMustWait (seat i h))) (sector-first i n small) ∙ hand-told rec lent n (seatMustWait (seat i h)))
   own-answer (run j request lent) e =
       let n = runNumber (seat i h) request lent in
       rw (own-is i j e) (ap (runTold h i request lent) (sector-first i n small) ∙ run-told request lent n)
   own-answer (fetch j buffer lent) e =
       let n = fetchNumber (seat i h) buffer lent in
-      rw (own-is i j e) (ap (λ (k : ℕ). fetchAnswer k (lentWords (h .area i) lent) buffer) (sector-first i n small))
+      rw (own-is i j e) (ap (λ (k : ℕ). fetchTold h i buffer lent k (waitsAt (h .desk) i)) (sector-first i n small) ∙ fetch-told buffer lent n (waitsAt (h .desk) i))
   own-answer (heard j) e = rw (own-is i j e) (ap (heardTold h i) (sector-passes i small))
   own-answer begin e = absurd (let z : _≡_ {A = ℕ} 0 1 = cc in omega arith)
   own-answer (setShares shares eight) e = absurd (not-own (sharesTest shares) (getD shares i 0) e)
 
 -- ---- the calls of others leave the sector as it is
 
-module _ (h : Hub) (i j : ℕ) (d : i ≡ j → ⊥) where
-  load-by-other : (rec : List ℕ) (lent : Lent) (n : ℕ) → seat i (loadHub h j rec lent n) ≡ seat i h
-  unfolding deskLoadBy
-  load-by-other rec lent zero = rw (getD-set-other (h .desk .jobs) j i _ noJob d, getD-set-other (h .desk .heard) j i _ 0 d, put-other (h .area) i j _ d)
-  load-by-other rec lent (suc n) = rw (put-other (h .area) i j _ d)
+module _ (h : Hub) (i j : ℕ) (d : i ≡ j → ⊥) (w : Eight (h .desk)) where
+  hand-by-other : (rec : List ℕ) (lent : Lent) (n : ℕ) (must : Bool) → (n ≡ 0 → (length rec ≡ 257) × (j < 8)) → seat i (handHub h j rec lent n must) ≡ seat i h
+  unfolding handInBy
+  hand-by-other rec lent zero true z =
+      rw (getD-set-other (h .desk .waits) j i 1 0 d, record-other (h .desk .records) rec j (w .records) (z refl .0) (z refl .1) i d, put-other (h .area) i j _ d)
+  hand-by-other rec lent zero false z =
+      rw (getD-set-other (h .desk .jobs) j i _ noJob d, getD-set-other (h .desk .heard) j i _ 0 d, getD-set-other (h .desk .waits) j i 0 0 d, put-other (h .area) i j _ d)
+  hand-by-other rec lent (suc n) must z = rw (put-other (h .area) i j _ d)
 
   run-by-other : (request : ℕ) (lent : Lent) (n : ℕ) → seat i (runHub h j request lent n) ≡ seat i h
   unfolding deskRunBy deskRunDone
   run-by-other request lent zero = rw (getD-set-other (h .desk .jobs) j i _ noJob d, getD-set-other (h .desk .left) j i _ 0 d, put-other (h .area) i j _ d)
   run-by-other request lent (suc n) = rw (put-other (h .area) i j _ d)
 
+  fetch-by-other : (buffer : List ℕ) (lent : Lent) (n : ℕ) (waits : Bool) → seat i (fetchHub h j buffer lent n waits) ≡ seat i h
+  unfolding deskFetchBy
+  fetch-by-other buffer lent zero true =
+      rw (getD-set-other (h .desk .jobs) j i _ noJob d, getD-set-other (h .desk .heard) j i _ 0 d, getD-set-other (h .desk .waits) j i 0 0 d, put-other (h .area) i j _ d)
+  fetch-by-other buffer lent zero false = rw (put-other (h .area) i j _ d)
+  fetch-by-other buffer lent (suc n) waits = rw (put-other (h .area) i j _ d)
+
 -- ---- a round begins, or the sector is given a share
 
 abbrev pub refilled : Seat → Seat
-refilled a = record { job = a .job; heard = a .heard; share = a .share; left = a .share; area = a .area }
+refilled a =
+    record { job = a .job; heard = a .heard; share = a .share; left = a .share; waits = a .waits; waiting = a .waiting; area = a .area }
 
 abbrev pub sharing : Seat → ℕ → Seat
-sharing a s = record { job = a .job; heard = a .heard; share = s; left = a .left; area = a .area }
+sharing a s =
+    record { job = a .job; heard = a .heard; share = s; left = a .left; waits = a .waits; waiting = a .waiting; area = a .area }
 
 abbrev setHub : Hub → List ℕ → ℕ → Hub
 setHub h shares n = record { desk = setSharesBy n (h .desk) shares .desk; area = h .area }
@@ -295,14 +431,17 @@ module _ (h : Hub) (i : ℕ) (small : i < 8) (w : Eight (h .desk)) where
       pick false e d = g (λ q. d refl (sym q))
 
   pub seat-next : (c : Call) → seat i (next h c) ≡ step (kind i c) c (seat i h)
-  unfolding next deskLoadOf deskRunOf deskFetchOf deskFetchBy deskHeardOf beginOf setSharesOf
-  seat-next (load j rec lent) =
-      own-or (load j rec lent) j (λ e. own-next h i small w (load j rec lent) (own-if i j e))
-      (λ d. load-by-other h i j d rec lent (deskLoadRefusal j rec (lentWords (h .area j) lent)))
+  unfolding next handInOf deskRunOf deskFetchOf deskHeardOf beginOf setSharesOf
+  seat-next (handIn j rec lent) =
+      let l = lentWords (h .area j) lent in
+      own-or (handIn j rec lent) j (λ e. own-next h i small w (handIn j rec lent) (own-if i j e))
+      (λ d. hand-by-other h i j d w rec lent (handInRefusal j rec l) (mustWait (h .desk) j) (λ z. (sized j rec l z, known j rec l z)))
   seat-next (run j request lent) =
       own-or (run j request lent) j (λ e. own-next h i small w (run j request lent) (own-if i j e))
-      (λ d. run-by-other h i j d request lent (deskRunRefusal (h .desk) j request (lentWords (h .area j) lent)))
-  seat-next (fetch j buffer lent) = own-or (fetch j buffer lent) j (λ e. refl) (λ d. refl)
+      (λ d. run-by-other h i j d w request lent (deskRunRefusal (h .desk) j request (lentWords (h .area j) lent)))
+  seat-next (fetch j buffer lent) =
+      own-or (fetch j buffer lent) j (λ e. own-next h i small w (fetch j buffer lent) (own-if i j e))
+      (λ d. fetch-by-other h i j d w buffer lent (deskFetchRefusal (h .desk) j (lentWords (h .area j) lent) buffer) (waitsAt (h .desk) j))
   seat-next (heard j) =
       let z = ap (λ (d : Desk). seat i (record { desk = d; area = h .area })) (heard-desk (sectorTest j) (h .desk) j) in
       own-or (heard j) j (λ e. z) (λ d. z)
@@ -311,30 +450,59 @@ module _ (h : Hub) (i : ℕ) (small : i < 8) (w : Eight (h .desk)) where
 
 -- ---- arrays stay arrays of eight
 
-eight-load : (d : Desk) (i : ℕ) (rec : List ℕ) (l : List ℤ) (n : ℕ) → Eight d → Eight (deskLoadBy n d i rec l .reply .desk)
-unfolding deskLoadBy
-eight-load d i rec l zero w =
-    record { jobs = length-set (d .jobs) i _ ∙ w .jobs; heard = length-set (d .heard) i _ ∙ w .heard; shares = w .shares; left = w .left }
-eight-load d i rec l (suc n) w = w
+eight-seated : (d : Desk) (i byte : ℕ) → Eight d → Eight (seated d i byte)
+eight-seated d i byte w =
+    record {
+      jobs = length-set (d .jobs) i _ ∙ w .jobs;
+      heard = length-set (d .heard) i _ ∙ w .heard;
+      shares = w .shares;
+      left = w .left;
+      waits = length-set (d .waits) i _ ∙ w .waits;
+      records = w .records;
+    }
+
+eight-hand : (d : Desk) (i : ℕ) (rec : List ℕ) (l : List ℤ) (n : ℕ) (must : Bool) → (n ≡ 0 → (length rec ≡ 257) × (i < 8)) → Eight d → Eight (handInBy n must d i rec l .reply .desk)
+unfolding handInBy
+eight-hand d i rec l zero true z w =
+    record {
+      jobs = w .jobs;
+      heard = w .heard;
+      shares = w .shares;
+      left = w .left;
+      waits = length-set (d .waits) i _ ∙ w .waits;
+      records = length-paste (d .records) (i * 257) rec 257 (omega (arith, w .records, z refl .1)) (omega (arith, z refl .0)) ∙ w .records;
+    }
+eight-hand d i rec l zero false z w = eight-seated d i (heardByte rec) w
+eight-hand d i rec l (suc n) must z w = w
 
 eight-run : (d : Desk) (i request : ℕ) (l : List ℤ) (n : ℕ) → Eight d → Eight (deskRunBy n d i request l .reply .desk)
 unfolding deskRunBy deskRunDone
 eight-run d i request l zero w =
-    record { jobs = length-set (d .jobs) i _ ∙ w .jobs; heard = w .heard; shares = w .shares; left = length-set (d .left) i _ ∙ w .left }
+    record { jobs = length-set (d .jobs) i _ ∙ w .jobs; heard = w .heard; shares = w .shares; left = length-set (d .left) i _ ∙ w .left; waits = w .waits; records = w .records }
 eight-run d i request l (suc n) w = w
+
+eight-fetch : (d : Desk) (i : ℕ) (l : List ℤ) (buffer : List ℕ) (n : ℕ) (waits : Bool) → Eight d → Eight (deskFetchBy n waits d i l buffer .reply .desk)
+unfolding deskFetchBy
+eight-fetch d i l buffer zero true w = eight-seated d i (heardByte (waitingAt d i)) w
+eight-fetch d i l buffer zero false w = w
+eight-fetch d i l buffer (suc n) waits w = w
 
 eight-set : (d : Desk) (shares : List ℕ) (n : ℕ) → length shares ≡ 8 → Eight d → Eight (setSharesBy n d shares .desk)
 unfolding setSharesBy
-eight-set d shares zero e w = record { jobs = w .jobs; heard = w .heard; shares = e; left = w .left }
+eight-set d shares zero e w = record { jobs = w .jobs; heard = w .heard; shares = e; left = w .left; waits = w .waits; records = w .records }
 eight-set d shares (suc n) e w = w
 
 pub eight-next : (h : Hub) (c : Call) → Eight (h .desk) → Eight (next h c .desk)
-unfolding next deskLoadOf deskRunOf deskFetchOf deskFetchBy deskHeardOf beginOf setSharesOf
-eight-next h (load j rec lent) w = eight-load (h .desk) j rec (lentWords (h .area j) lent) (deskLoadRefusal j rec (lentWords (h .area j) lent)) w
+unfolding next handInOf deskRunOf deskFetchOf deskHeardOf beginOf setSharesOf
+eight-next h (handIn j rec lent) w =
+    let l = lentWords (h .area j) lent in
+    eight-hand (h .desk) j rec l (handInRefusal j rec l) (mustWait (h .desk) j) (λ z. (sized j rec l z, known j rec l z)) w
 eight-next h (run j request lent) w = eight-run (h .desk) j request (lentWords (h .area j) lent) (deskRunRefusal (h .desk) j request (lentWords (h .area j) lent)) w
-eight-next h (fetch j buffer lent) w = w
+eight-next h (fetch j buffer lent) w =
+    let l = lentWords (h .area j) lent in
+    eight-fetch (h .desk) j l buffer (deskFetchRefusal (h .desk) j l buffer) (waitsAt (h .desk) j) w
 eight-next h (heard j) w = subst Eight (sym (heard-desk (sectorTest j) (h .desk) j)) w
-eight-next h begin w = record { jobs = w .jobs; heard = w .heard; shares = w .shares; left = w .shares }
+eight-next h begin w = record { jobs = w .jobs; heard = w .heard; shares = w .shares; left = w .shares; waits = w .waits; records = w .records }
 eight-next h (setShares shares eight) w = eight-set (h .desk) shares (sharesTest shares) eight w
 
 pub eight-after : (h : Hub) (calls : List Call) → Eight (h .desk) → Eight (after h calls .desk)
@@ -343,4 +511,4 @@ eight-after h [] w = w
 eight-after h (c ∷ calls) w = eight-after (next h c) calls (eight-next h c w)
 
 pub eight-new : (areas : ℕ → List ℤ) → Eight (new areas .desk)
-eight-new areas = record { jobs = refl; heard = refl; shares = refl; left = refl }
+eight-new areas = record { jobs = refl; heard = refl; shares = refl; left = refl; waits = refl; records = length-replicate {A = ℕ} 2056 0 }

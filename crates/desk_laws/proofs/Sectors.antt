@@ -1,9 +1,12 @@
 -- Demand 3 for each sector: the desk's account of it and demand 3's go side by side. Assumes nothing.
 use mathlib.Core.Path.{_≡_, refl, sym, ap, ap₂, _∙_, subst}
 use mathlib.Core.Logic.{_↔_}
+use mathlib.Core.Bool.{Bool, true, false, not}
 use mathlib.Core.List.{List, [], _∷_, _++_, append-assoc, append-nil}
 use Prim.Native.Nat.{ℕ, zero, suc, _+_, _≤_, _<_}
 use native.Mathlib.Omega.{arith}
+use lib.Dec.{T}
+use lib.IntN.{ℤ}
 use lib.ListN.{length, drop}
 use Rattle.lists.specs.Histories.{afterAll, Place, Point}
 use Rattle.lists.proofs.Histories.{after-append, Along, along-of, along-append, each-of, each-before}
@@ -14,17 +17,18 @@ use Rattle.workspace.specs.Workspace.{R, Q}
 use Rattle.engine.specs.Load.{loadBy, loadOf}
 use Rattle.engine.specs.Run.{runRefusal, nextJob, runDone}
 use Rattle.engine.proofs.Taken.{all-taken}
-use Rattle.engine.specs.Fetch.{fetchOf}
+use Rattle.engine.specs.Fetch.{fetchBy, fetchOf}
 use Rattle.accuracy.specs.Factorization.{Factorization}
 use Rattle.accuracy.specs.Demand3.{Load, State, RunCall, FetchCall, ran, refusal, start, EachInStep, Kept}
 use Rattle.accuracy.specs.Demand3 as engine
 use Rattle.accuracy.proofs.Demand3.{demand3}
 use Rattle.accuracy.proofs.Possible.{Stepping}
 use Rattle.desk.specs.Desk.{jobAt}
-use Rattle.desk_laws.specs.Calls.{Lent, its, another, Call, load, run, fetch, heard, begin, setShares, Hub, new, lentWords, Answer, answer, next, after, Accepted, Kind, own, other, round, setting, kind, Its, LentIts, OwnLent, EachLentIts}
-use Rattle.desk_laws.specs.Unloaded.{IsLoad, NoLoad, EachNoLoad}
-use Rattle.desk_laws.specs.Sectors.{engineRun, engineFetch, engineCall, engineCalls, stateAfter, ranAnswer, fetchedAnswer, SectorDemand3}
-use Rattle.desk_laws.proofs.Seats.{Seat, seat, Eight, loadSeat, runSeat, loadNumber, runNumber, fetchNumber, seatGrant, ownNext, loadAnswer, runAnswer, fetchAnswer, ownAnswer, run-number-is, own-kind, own-next, own-answer, step, seat-next, eight-next, eight-after, eight-new}
+use Rattle.desk_laws.specs.Calls.{Lent, its, another, Call, handIn, run, fetch, heard, begin, setShares, Hub, new, lentWords, loadsIf, loads, Answer, bare, answer, next, after, Accepted, Kind, own, other, round, setting, kind, NoLoad, EachNoLoad, Its, LentIts, OwnLent, EachLentIts}
+use Rattle.desk_laws.specs.Ledger.{matrix, Ledger, fresh, ifAccepted, ledgerAfter, ledger}
+use Rattle.desk_laws.specs.Sectors.{engineRun, engineFetch, engineCall, engineCalls, stateAfter, ranAnswer, fetchedAnswer, LoadedBy, SectorDemand3}
+use Rattle.desk_laws.proofs.Seats.{Seat, seat, Eight, loadedSeat, handSeat, runSeat, fetchSeat, handNumber, seatMustWait, runNumber, fetchNumber, seatGrant, ownNext, ownLoads, runAnswer, fetchAnswer, ownAnswer, run-number-is, fetch-number-is, seatLent, lent-own, own-kind, own-next, own-loads, own-answer, step, seat-next, eight-next, eight-after, eight-new}
+use Rattle.desk_laws.proofs.Ledgers.{same-record, own-loading, own-entry, noted-all, ledger-append}
 use Rattle.desk_laws.proofs.Refusals.{refusals-change-nothing}
 
 -- ---- a seat and a state of demand 3 side by side
@@ -44,9 +48,11 @@ module _ (a : Seat) (s : State) (b : Beside a s) where
   unfolding Along afterAll
   idle = record { in-step = tt; beside = b }
 
-  load-step : (rec : List ℕ) (lent : Lent) (n : ℕ) → (loadAnswer n rec (lentWords (a .area) lent) .number ≡ 0 → ⊥) → Step (loadSeat n a rec lent) s []
-  load-step rec lent zero f = absurd (f refl)
-  load-step rec lent (suc n) f = idle
+  hand-step : (rec : List ℕ) (lent : Lent) (n : ℕ) (must : Bool) → loadsIf n (not must) ≡ false → Step (handSeat n must a rec lent) s []
+  unfolding Along afterAll
+  hand-step rec lent zero true f = record { in-step = tt; beside = record { area = b .area; job = b .job; granted = b .granted } }
+  hand-step rec lent zero false f = absurd (subst T f tt)
+  hand-step rec lent (suc n) must f = idle
 
   -- an accepted Run, with the turns granted for its allowance
   ran-is : (request : ℕ) → runNumber a request its ≡ 0 → ran s (engineRun (a .job) (seatGrant a request) its) ≡ runDone (a .job) (seatGrant a request) (a .area)
@@ -57,9 +63,21 @@ module _ (a : Seat) (s : State) (b : Beside a s) where
   unfolding runDone
   ran-told request e = rw (ran-is request e)
 
-  fetched-told : (buffer : List ℕ) → fetchAnswer (fetchNumber a buffer its) (a .area) buffer ≡ fetchedAnswer s (engineFetch (a .job) buffer its)
+  -- a Fetch, which may bring one in
+  fetched-by : (n : ℕ) (waits : Bool) (buffer : List ℕ) (l : List ℤ)
+      → (let r = fetchAnswer n waits (a .waiting) l buffer in r ≡ bare n (fetchBy n l buffer .buffer) (r .words))
+  unfolding fetchBy
+  fetched-by zero waits buffer l = refl
+  fetched-by (suc n) waits buffer l = refl
+
+  fetched-told : (buffer : List ℕ) → (let r = ownAnswer a (fetch 0 buffer its) in r ≡ fetchedAnswer s (engineFetch (a .job) buffer its) (r .words))
   unfolding fetchOf
-  fetched-told buffer = rw (b .area)
+  fetched-told buffer = fetched-by (fetchNumber a buffer its) (a .waits) buffer (a .area) ∙ rw (b .area)
+
+  fetched-left : (n : ℕ) (waits : Bool) (buffer : List ℕ) → loadsIf n waits ≡ false → fetchAnswer n waits (a .waiting) (a .area) buffer .words ≡ s .workspace
+  fetched-left zero true buffer f = absurd (subst T f tt)
+  fetched-left zero false buffer f = b .area
+  fetched-left (suc n) waits buffer f = b .area
 
   run-done : (request : ℕ) → runNumber a request its ≡ 0
       → Beside (runSeat 0 a (seatGrant a request) its) (engine.moved s (engineRun (a .job) (seatGrant a request) its) (ran s (engineRun (a .job) (seatGrant a request) its)))
@@ -81,11 +99,19 @@ module _ (a : Seat) (s : State) (b : Beside a s) where
   fetch-step j n buffer its u = record { in-step = (λ z. (refl, b .job), tt); beside = b }
   fetch-step j n buffer (another m) u = record { in-step = (λ z. absurd (u z), tt); beside = b }
 
-  own-step : (c : Call) → (IsLoad c → ownAnswer a c .number ≡ 0 → ⊥) → (ownAnswer a c .number ≡ 0 → LentIts c)
+  not-brought : (lent : Lent) (n : ℕ) (waits : Bool) → loadsIf n waits ≡ false → fetchSeat n waits a lent ≡ a
+  not-brought lent zero true f = absurd (subst T f tt)
+  not-brought lent zero false f = refl
+  not-brought lent (suc n) waits f = refl
+
+  own-step : (c : Call) → ownLoads a c ≡ false → (ownAnswer a c .number ≡ 0 → LentIts c)
       → Step (ownNext a c) s (engineCall own (ownAnswer a c .number) (a .job) c (ownAnswer a c .count))
-  own-step (load j rec lent) f u = load-step rec lent (loadNumber a rec lent) (f tt)
+  own-step (handIn j rec lent) f u = hand-step rec lent (handNumber a rec lent) (seatMustWait a) f
   own-step (run j request lent) f u = run-step j request lent (runNumber a request lent) refl u
-  own-step (fetch j buffer lent) f u = fetch-step j (fetchNumber a buffer lent) buffer lent u
+  own-step (fetch j buffer lent) f u =
+      let n = fetchNumber a buffer lent in
+      let e = fetch-number-is n (a .waits) (a .waiting) (lentWords (a .area) lent) buffer in
+      subst (λ (x : Seat). Step x s (engineCall own n (a .job) (fetch j buffer lent) 0)) (sym (not-brought lent n (a .waits) f)) (fetch-step j n buffer lent (λ z. u (e ∙ z)))
   own-step (heard j) f u = idle
   own-step begin f u = idle
   own-step (setShares shares eight) f u = idle
@@ -93,13 +119,13 @@ module _ (a : Seat) (s : State) (b : Beside a s) where
 -- ---- over a list of calls
 
 module _ (i : ℕ) (small : i < 8) where
-  by-kind : (h : Hub) (c : Call) (s : State) (k : Kind) → kind i c ≡ k → Eight (h .desk) → Beside (seat i h) s → (k ≡ own → IsLoad c → Accepted h c → ⊥) → (k ≡ own → Accepted h c → LentIts c)
+  by-kind : (h : Hub) (c : Call) (s : State) (k : Kind) → kind i c ≡ k → Eight (h .desk) → Beside (seat i h) s → (k ≡ own → loads h c ≡ false) → (k ≡ own → Accepted h c → LentIts c)
       → Step (step k c (seat i h)) s (engineCall k (answer h c .number) (jobAt (h .desk) i) c (answer h c .count))
   by-kind h c s own e w b f u =
       let r = own-answer h i small w c e in
       let n = ap (λ (x : Answer). x .number) r in
       subst (λ (x : Answer). Step (ownNext (seat i h) c) s (engineCall own (x .number) (jobAt (h .desk) i) c (x .count))) (sym r)
-      (own-step (seat i h) s b c (λ t z. f refl t (n ∙ z)) (λ z. u refl (n ∙ z)))
+      (own-step (seat i h) s b c (sym (own-loads h i small w c e) ∙ f refl) (λ z. u refl (n ∙ z)))
   by-kind h c s other e w b f u = idle _ s b
   by-kind h c s round e w b f u = idle _ s (record { area = b .area; job = b .job; granted = b .granted })
   by-kind h c s (setting t) e w b f u = idle _ s (record { area = b .area; job = b .job; granted = b .granted })
@@ -209,36 +235,60 @@ module _ (i : ℕ) (small : i < 8) (l : Load) (g : Hub) (w : Eight (g .desk)) (b
       let x = refusals-change-nothing (after g (p .before)) (run i request lent) (λ z. omega (arith, e, z)) .answer in
       (ap (λ (y : Answer). y .clamps-r) x, ap (λ (y : Answer). y .clamps-q) x)
 
-  module _ (buffer : List ℕ) (p : Place (fetch i buffer its) calls) where
+  -- a Fetch at any point, whether or not it stands there
+  module _ (buffer : List ℕ) (p : Point calls) where
     abbrev fetch-hub : Hub
     fetch-hub = after g (p .before)
 
     abbrev fetch-call : FetchCall
     fetch-call = engineFetch (jobAt (fetch-hub .desk) i) buffer its
 
-    fetch-split : engineCalls i g calls ≡ engineCalls i g (p .before) ++ engine.fetch fetch-call ∷ rest-calls p
-    fetch-split =
-        split p (engine.fetch fetch-call)
-        (ap (λ (k : Kind). engineCall k (answer fetch-hub (fetch i buffer its) .number) (jobAt (fetch-hub .desk) i) (fetch i buffer its) (answer fetch-hub (fetch i buffer its) .count)) (own-kind i))
+    abbrev fetch-state : State
+    fetch-state = stateAfter i l g (p .before)
 
-    abbrev fetch-place : Place (engine.fetch fetch-call) (engineCalls i g calls)
-    fetch-place = record { before = engineCalls i g (p .before); rest = rest-calls p; is = fetch-split }
+    beside-there : Beside (seat i fetch-hub) fetch-state
+    beside-there = at p .beside
 
-    fetch-told : answer fetch-hub (fetch i buffer its) ≡ fetchedAnswer (stateAfter i l g (p .before)) fetch-call
-    fetch-told = told-here p (own-kind i) ∙ fetched-told (seat i fetch-hub) (stateAfter i l g (p .before)) (beside-here p) buffer
+    -- the engine's calls up to there, and the Fetch
+    abbrev then-fetched : List engine.Call
+    then-fetched = engineCalls i g (p .before) ++ engine.fetch fetch-call ∷ []
 
-    number-told : answer fetch-hub (fetch i buffer its) .number ≡ refusal (stateAfter i l g (p .before)) (engine.fetch fetch-call)
+    then-kept : Kept l then-fetched
+    unfolding EachInStep Along
+    then-kept =
+        demand3 l then-fetched
+        (each-of engine.after Stepping (start l) then-fetched
+        (along-append engine.after Stepping (start l) (engineCalls i g (p .before)) (engine.fetch fetch-call ∷ []) (at p .in-step) (λ z. (refl, beside-there .job), tt)))
+
+    abbrev fetch-place : Place (engine.fetch fetch-call) then-fetched
+    fetch-place = record { before = engineCalls i g (p .before); rest = []; is = refl }
+
+    own-told : answer fetch-hub (fetch i buffer its) ≡ ownAnswer (seat i fetch-hub) (fetch i buffer its)
+    own-told = own-answer fetch-hub i small (eight-after g (p .before) w) (fetch i buffer its) (own-kind i)
+
+    fetch-told : answer fetch-hub (fetch i buffer its) ≡ fetchedAnswer fetch-state fetch-call (answer fetch-hub (fetch i buffer its) .words)
+    fetch-told =
+        own-told ∙ fetched-told (seat i fetch-hub) fetch-state beside-there buffer
+        ∙ ap (λ (x : Answer). fetchedAnswer fetch-state fetch-call (x .words)) (sym own-told)
+
+    fetch-left : loads fetch-hub (fetch i buffer its) ≡ false → answer fetch-hub (fetch i buffer its) .words ≡ fetch-state .workspace
+    fetch-left f =
+        let a = seat i fetch-hub in
+        let e = own-loads fetch-hub i small (eight-after g (p .before) w) (fetch i buffer its) (own-kind i) in
+        ap (λ (x : Answer). x .words) own-told ∙ fetched-left a fetch-state beside-there (fetchNumber a buffer its) (a .waits) buffer (sym e ∙ f)
+
+    number-told : answer fetch-hub (fetch i buffer its) .number ≡ refusal fetch-state (engine.fetch fetch-call)
     number-told = ap (λ (x : Answer). x .number) fetch-told
 
     fetch-iff : Accepted fetch-hub (fetch i buffer its) ↔ ((120 ≤ jobAt (fetch-hub .desk) i .turn) × (2049 ≤ length buffer))
     fetch-iff =
-        let k = kept .fetch-accepted fetch-call fetch-place (refl, beside-here p .job) in
-        let t = beside-here p .granted in
+        let k = then-kept .fetch-accepted fetch-call fetch-place (refl, beside-there .job) in
+        let t = beside-there .granted in
         (λ z. (let x = k .0 (sym number-told ∙ z) in (omega (arith, t, x .0), x .1)), λ x. number-told ∙ k .1 (omega (arith, t, x .0), x .1))
 
     fetch-written : Accepted fetch-hub (fetch i buffer its)
         → answer fetch-hub (fetch i buffer its) .buffer ≡ resultRecord (R (fetch-hub .area i)) (Q (fetch-hub .area i)) ++ drop 2049 buffer
-    fetch-written z = ap (λ (x : Answer). x .buffer) fetch-told ∙ rw (beside-here p .area) (kept .written fetch-call fetch-place (sym number-told ∙ z))
+    fetch-written z = ap (λ (x : Answer). x .buffer) fetch-told ∙ rw (beside-there .area) (then-kept .written fetch-call fetch-place (sym number-told ∙ z))
 
   -- once all turns are granted
   factored-at : (p : Point calls)
@@ -251,25 +301,44 @@ module _ (i : ℕ) (small : i < 8) (l : Load) (g : Hub) (w : Eight (g .desk)) (b
 
 -- ---- the law
 
--- after an accepted Load
-loaded-beside : (a : Seat) (l : Load) → l .lent ≡ a .area → Beside (loadSeat (loadNumber a (l .bytes) its) a (l .bytes) its) (start l)
-unfolding start loadOf loadBy
-loaded-beside a l e = rw (← e, l .accepted) (record { area = refl; job = refl; granted = refl })
+-- the sector after the load, by what was loaded
+module _ (i : ℕ) (small : i < 8) (areas : ℕ → List ℤ) (before : List Call) (c : Call) (l : Load) (d : LoadedBy i areas before c l) where
+  abbrev load-hub : Hub
+  load-hub = after (new areas) before
+
+  load-eight : Eight (load-hub .desk)
+  load-eight = eight-after (new areas) before (eight-new areas)
+
+  start-beside : (a : Seat) (rec : List ℕ) (words : List ℤ) → rec ≡ l .bytes → words ≡ l .lent → Beside (loadedSeat a rec words) (start l)
+  unfolding start loadOf loadBy
+  start-beside a rec words e f = rw (e, f, l .accepted) (record { area = refl; job = refl; granted = refl })
+
+  -- what the ledger has noted is what was loaded
+  loaded-source : ifAccepted (ownAnswer (seat i load-hub) c .number) (ownLoads (seat i load-hub) c) c (ledger i areas before) .source ≡ matrix (l .bytes)
+  unfolding ledgerAfter
+  loaded-source =
+      ap (λ (n : Ledger). n .source) (sym (own-entry i small load-hub c (ledger i areas before) load-eight (d .loads .0)) ∙ sym (ledger-append i (new areas) fresh before (c ∷ [])))
+      ∙ d .source
+
+  loaded-beside : Beside (seat i (next load-hub c)) (start l)
+  loaded-beside =
+      let a = seat i load-hub in
+      let o = own-loading (ledger i areas before) a (noted-all i small areas before) c (sym (own-loads load-hub i small load-eight c (d .loads .0)) ∙ d .loads .1) in
+      let b = start-beside a (o .rec) (seatLent a c) (same-record (o .rec) (l .bytes) (sym (o .source) ∙ loaded-source)) (sym (lent-own load-hub i c (d .loads .0)) ∙ d .lent) in
+      subst (λ (x : Seat). Beside x (start l)) (sym (own-next load-hub i small load-eight c (d .loads .0) ∙ o .is)) b
 
 pub sector-demand-3 : SectorDemand3
-sector-demand-3 i areas before calls l small e f u =
+sector-demand-3 i areas before c calls l small d f u =
     let h = after (new areas) before in
-    let w = eight-after (new areas) before (eight-new areas) in
-    let c = load i (l .bytes) its in
     let g = next h c in
-    let x = eight-next h c w in
-    let b = subst (λ (a : Seat). Beside a (start l)) (sym (own-next h i small w c (own-kind i))) (loaded-beside (seat i h) l e) in
+    let x = eight-next h c (eight-after (new areas) before (eight-new areas)) in
+    let b = loaded-beside i small areas before c l d in
     record {
       in-step = stepped i small l g x b calls f u;
       kept = kept i small l g x b calls f u;
       follows = λ p. let y = at i small l g x b calls f u p .beside in record { area = y .area; job = y .job; granted = y .granted };
       runs = run-told i small l g x b calls f u;
-      fetches = fetch-told i small l g x b calls f u;
+      fetches = λ buffer p. (fetch-told i small l g x b calls f u buffer p, fetch-left i small l g x b calls f u buffer p);
       no-clamps = λ request lent p. by-number i small l g x b calls f u request lent p _ refl;
       fetch-accepted = fetch-iff i small l g x b calls f u;
       written = fetch-written i small l g x b calls f u;

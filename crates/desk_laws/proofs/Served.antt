@@ -1,10 +1,12 @@
 -- The premises of the laws can be met, and U10's number of rounds is sharp. Assumes nothing.
 use mathlib.Core.Path.{_≡_, refl, sym, ap, ap₂, _∙_, subst}
+use mathlib.Core.Bool.{Bool, true, false, not, _||_}
 use mathlib.Core.List.{List, [], _∷_, _++_}
 use Prim.Native.Nat.{ℕ, zero, suc, _+_, _-_, _*_, _≤_, _<_, min}
 use native.Mathlib.Nat.{div-add-mod', le-refl, suc-mul, zero-mul}
 use native.Mathlib.Omega.{arith}
 use borrow.Author.Tests.{le-ltb}
+use lib.Dec.{ltb}
 use lib.IntN.{ℤ}
 use lib.ListN.{length, getD, replicate, getD-replicate}
 use lib.Seq.{getD-set-same, getD-set-other}
@@ -13,20 +15,27 @@ use Rattle.lists.specs.Histories.{afterAll, Place}
 use Rattle.lists.proofs.Histories.{after-append, Along, along-of, along-append, each-of}
 use Rattle.refusals.specs.Refusals.{headerTest}
 use Rattle.workspace.proofs.WordsAfter.{words-length}
-use Rattle.engine.specs.Load.{loadRefusal, loadBy}
+use Rattle.engine.specs.declared.job.Job.{Job}
+use Rattle.engine.specs.Load.{loadRefusal}
 use Rattle.engine.specs.Run.{nextJob, runDone}
-use Rattle.engine.proofs.Accepted.{PossibleJob, run-passes}
+use Rattle.engine.proofs.Accepted.{PossibleJob, load-accepted, run-passes}
 use Rattle.engine.proofs.Taken.{possible-next}
 use Rattle.accuracy.specs.Demand3.{Load}
-use Rattle.accuracy.proofs.Demand3.{room}
-use Rattle.desk.specs.Desk.{jobAt}
+use Rattle.accuracy.proofs.Loading.{loaded-room}
+use Rattle.desk.specs.Desk.{unloadedJob, jobAt}
+use Rattle.desk.specs.HandIn.{handInRefusal}
+use Rattle.desk.specs.Fetch.{deskFetchRefusal}
 use Rattle.desk.specs.Shares.{totalOf, sharesTest}
-use Rattle.desk.proofs.Accepted.{left-passes}
-use Rattle.desk_laws.specs.Calls.{its, Call, load, run, fetch, begin, Hub, new, Answer, next, after, Accepted, Kind, own, other, setting, settingBy, kind, OwnLent, EachLentIts}
-use Rattle.desk_laws.specs.Unloaded.{NoLoad, EachNoLoad}
+use Rattle.desk.proofs.Accepted.{sector-passes, left-passes}
+use Rattle.desk_laws.specs.Calls.{its, Call, handIn, run, fetch, begin, Hub, new, loadsIf, loads, next, after, Accepted, Kind, own, other, setting, settingBy, kind, Loads, NoLoad, EachNoLoad, OwnLent, EachLentIts}
+use Rattle.desk_laws.specs.Ledger.{Ledger, fresh, ifAccepted, noted, ledgerAfter}
+use Rattle.desk_laws.specs.Sectors.{LoadedBy}
 use Rattle.desk_laws.specs.Finish.{Undisturbed, EachUndisturbed, Requests, inRounds, EachRequests, roundedUp}
 use Rattle.desk_laws.specs.Served.{onlyFor, giving, requesting, ServedInRounds, NoRoundFewer, unserved, UnservedPossible}
-use Rattle.desk_laws.proofs.Seats.{Seat, seat, Eight, loadSeat, runSeat, loadNumber, runNumber, seatGrant, ownNext, loadAnswer, own-kind, own-next, own-answer, refilled, sharing, step, seat-next, eight-next, eight-after, eight-new}
+use Rattle.desk_laws.proofs.Seats.{Seat, seat, Eight, loadedSeat, handSeat, runSeat, handNumber, seatMustWait, runNumber, seatGrant, ownNext, hand-number-is, own-kind, own-next, own-loads, refilled, sharing, step, seat-next, eight-next, eight-after, eight-new}
+use Rattle.desk_laws.proofs.Unloaded.{none-waits, never-loaded}
+use Rattle.desk_laws.proofs.Ledgers.{own-entry}
+use Rattle.desk_laws.proofs.Calm.{Calm, Stays, calm-after}
 use Rattle.desk_laws.proofs.Sectors.{sector-demand-3}
 
 -- ---- the share of one sector is the total
@@ -47,19 +56,16 @@ given-kind i s small fits =
 
 -- ---- a sector that has its share, room in its area, and n turns granted, as far as its job had them left
 
-record Ready (s n : ℕ) (a : Seat) : Type 0 where
-  share : a .share ≡ s
-  turn : a .job .turn ≡ min n 120
-  possible : PossibleJob (a .job)
-  room : 512 ≤ length (a .area)
+pub record Ready (s n : ℕ) (a : Seat) : Type 0 where
+  pub share : a .share ≡ s
+  pub turn : a .job .turn ≡ min n 120
+  pub possible : PossibleJob (a .job)
+  pub room : 512 ≤ length (a .area)
 
-loaded-ready : (s : ℕ) (a : Seat) (l : Load) → l .lent ≡ a .area → a .share ≡ s → Ready s 0 (loadSeat (loadNumber a (l .bytes) its) a (l .bytes) its)
-unfolding loadBy
-loaded-ready s a l e f =
-    rw (← e, l .accepted) (record { share = f; turn = refl; possible = record { turn = omega arith; made = omega arith }; room = room l })
-
-load-taken : (a : Seat) (l : Load) → l .lent ≡ a .area → loadAnswer (loadNumber a (l .bytes) its) (l .bytes) (a .area) .number ≡ 0
-load-taken a l e = rw (← e, l .accepted)
+-- a record that is just loaded
+pub loaded-ready : (s : ℕ) (a : Seat) (rec : List ℕ) (l : List ℤ) → ((k : ℕ) → getD rec k 0 < 256) → 512 ≤ length l → a .share ≡ s → Ready s 0 (loadedSeat a rec l)
+loaded-ready s a rec l bytes room f =
+    record { share = f; turn = refl; possible = record { turn = omega arith; made = omega arith }; room = loaded-room rec bytes l room }
 
 -- with its whole share left it is granted that much, or what its job has left
 module _ (s n : ℕ) (positive : 0 < s) (a : Seat) (x : Ready s n a) (full : a .left ≡ s) where
@@ -108,10 +114,10 @@ module _ (i s : ℕ) (small : i < 8) (positive : 0 < s) (others : List Call) (no
   round-calls = others ++ run i s its ∷ []
 
   -- what the premises say of the calls from here on, and how the sector stands after them
-  record Going (h : Hub) (n : ℕ) (calls : List Call) : Type 0 where
-    undisturbed : Along next (Undisturbed i s) h calls
-    lent : Along next (OwnLent i) h calls
-    ready : Ready s n (seat i (after h calls))
+  pub record Going (h : Hub) (n : ℕ) (calls : List Call) : Type 0 where
+    pub undisturbed : Along next (Undisturbed i s) h calls
+    pub lent : Along next (OwnLent i) h calls
+    pub ready : Ready s n (seat i (after h calls))
 
   module _ (h : Hub) (w : Eight (h .desk)) (n : ℕ) (x : Ready s n (seat i h)) where
     abbrev begun : Hub
@@ -149,10 +155,10 @@ module _ (i s : ℕ) (small : i < 8) (positive : 0 < s) (others : List Call) (no
     unfolding Along afterAll
     went = record {
       undisturbed = (
-        record { share = λ e. x .share; not-loaded = λ o t. absurd t },
+        record { share = λ e. x .share; not-loaded = λ o. refl },
         along-append next (Undisturbed i s) begun others (run i s its ∷ [])
             (by-others (Undisturbed i s) (λ g c o e. record { share = λ z. ap (λ (a : Seat). a .share) e ∙ x .share; not-loaded = λ z. never-own o z }) .0)
-            (record { share = λ z. ap (λ (a : Seat). a .share) stays ∙ x .share; not-loaded = λ o t. absurd t }, tt),
+            (record { share = λ z. ap (λ (a : Seat). a .share) stays ∙ x .share; not-loaded = λ o. refl }, tt),
       );
       lent = (
         λ o z. tt,
@@ -163,7 +169,7 @@ module _ (i s : ℕ) (small : i < 8) (positive : 0 < s) (others : List Call) (no
 
   -- ---- m rounds
 
-  all-went : (m : ℕ) (h : Hub) → Eight (h .desk) → (n : ℕ) → Ready s n (seat i h)
+  pub all-went : (m : ℕ) (h : Hub) → Eight (h .desk) → (n : ℕ) → Ready s n (seat i h)
       → Going h (n + m * s) (inRounds (requesting i s others m)) × EachRequests i s h (requesting i s others m)
   unfolding Along afterAll inRounds EachRequests
   all-went zero h w n x =
@@ -183,14 +189,31 @@ module _ (i s : ℕ) (small : i < 8) (positive : 0 < s) (others : List Call) (no
         (requested h w n x, later .1),
       )
 
+  -- ---- the rounds are calm: the sector requests its share and does nothing else
+
+  pub rounds-calm : (m : ℕ) (h : Hub) → Along next (Calm i) h (inRounds (requesting i s others m))
+  unfolding Along inRounds
+  rounds-calm zero h = tt
+  rounds-calm (suc m) h = (
+    λ o. tt,
+    along-append next (Calm i) (next h begin) round-calls (inRounds (requesting i s others m))
+        (along-append next (Calm i) (next h begin) others (run i s its ∷ []) (along-of next (Calm i) (next h begin) others (λ c p o. never-own (none c p) o)) (λ o. tt, tt))
+        (rounds-calm m (after (next h begin) round-calls)),
+  )
+
+-- a Fetch brings nothing in where none waits
+pub no-load : (n : ℕ) {b : Bool} → b ≡ false → loadsIf n b ≡ false
+no-load zero e = e
+no-load (suc n) e = refl
+
 -- ---- from a new desk on
 
 module _ (i s : ℕ) (small : i < 8) (positive : 0 < s) (fits : s ≤ 120) (areas : ℕ → List ℤ) (l : Load) (same : l .lent ≡ areas i) (others : List Call) (none : (c : Call) → Place c others → kind i c ≡ other) (m : ℕ) where
   abbrev given-hub : Hub
   given-hub = next (new areas) (giving i s)
 
-  abbrev loading : Call
-  loading = load i (l .bytes) its
+  abbrev handing : Call
+  handing = handIn i (l .bytes) its
 
   abbrev rounds : List Call
   rounds = inRounds (requesting i s others m)
@@ -198,67 +221,104 @@ module _ (i s : ℕ) (small : i < 8) (positive : 0 < s) (fits : s ≤ 120) (area
   given-seat : seat i given-hub ≡ sharing (seat i (new areas)) s
   given-seat = seat-next (new areas) i small (eight-new areas) (giving i s) ∙ ap (λ (k : Kind). step k (giving i s) (seat i (new areas))) (given-kind i s small fits)
 
-  given-eight : Eight (given-hub .desk)
+  pub given-eight : Eight (given-hub .desk)
   given-eight = eight-next (new areas) (giving i s) (eight-new areas)
 
-  its-area : l .lent ≡ given-hub .area i
-  its-area = same ∙ sym (ap (λ (a : Seat). a .area) given-seat)
+  its-area : given-hub .area i ≡ l .lent
+  its-area = ap (λ (a : Seat). a .area) given-seat ∙ sym same
 
-  taken-in : Accepted given-hub loading
-  taken-in = ap (λ (x : Answer). x .number) (own-answer given-hub i small given-eight loading (own-kind i)) ∙ load-taken (seat i given-hub) l its-area
+  -- it need not wait
+  pub at-once : seatMustWait (seat i given-hub) ≡ false
+  at-once =
+      ap seatMustWait given-seat
+      ∙ ap₂ (λ (b : Bool) (j : Job). b || ltb (j .turn) 120) (none-waits i small areas) (getD-replicate 8 i unloadedJob _ small)
 
-  at-start : Ready s 0 (seat i (next given-hub loading))
+  pub passes : handNumber (seat i given-hub) (l .bytes) its ≡ 0
+  passes = rw its-area (l .accepted)
+
+  pub taken-in : Loads i given-hub handing
+  taken-in = (own-kind i, own-loads given-hub i small given-eight handing (own-kind i) ∙ ap₂ (λ (n : ℕ) (b : Bool). loadsIf n (not b)) passes at-once)
+
+  pub loaded-seat : seat i (next given-hub handing) ≡ loadedSeat (seat i given-hub) (l .bytes) (given-hub .area i)
+  loaded-seat =
+      own-next given-hub i small given-eight handing (own-kind i)
+      ∙ ap₂ (λ (n : ℕ) (b : Bool). handSeat n b (seat i given-hub) (l .bytes) its) passes at-once
+
+  pub at-start : Ready s 0 (seat i (next given-hub handing))
   at-start =
-      subst (Ready s 0) (sym (own-next given-hub i small given-eight loading (own-kind i)))
-      (loaded-ready s (seat i given-hub) l its-area (ap (λ (a : Seat). a .share) given-seat))
+      let room = load-accepted (l .bytes) (given-hub .area i) passes .room in
+      subst (Ready s 0) (sym loaded-seat) (loaded-ready s (seat i given-hub) (l .bytes) (given-hub .area i) (l .small) room (ap (λ (a : Seat). a .share) given-seat))
 
-  going : Going i s small positive others none (next given-hub loading) (0 + m * s) rounds × EachRequests i s (next given-hub loading) (requesting i s others m)
-  going = all-went i s small positive others none m (next given-hub loading) (eight-next given-hub loading given-eight) 0 at-start
+  going : Going i s small positive others none (next given-hub handing) (0 + m * s) rounds × EachRequests i s (next given-hub handing) (requesting i s others m)
+  going = all-went i s small positive others none m (next given-hub handing) (eight-next given-hub handing given-eight) 0 at-start
 
-  turn-is : jobAt (after (next given-hub loading) rounds .desk) i .turn ≡ min (m * s) 120
+  abbrev first-ledger : Ledger
+  first-ledger = noted i given-hub handing (noted i (new areas) (giving i s) fresh)
+
+  pub entry-is : first-ledger ≡ ifAccepted 0 true handing (noted i (new areas) (giving i s) fresh)
+  entry-is =
+      let a = seat i given-hub in
+      let g = noted i (new areas) (giving i s) fresh in
+      own-entry i small given-hub handing g given-eight (own-kind i)
+      ∙ ap₂ (λ (n : ℕ) (b : Bool). ifAccepted n b handing g) (hand-number-is _ (seatMustWait a) a (l .bytes) (a .area) ∙ passes) (sym (own-loads given-hub i small given-eight handing (own-kind i)) ∙ taken-in .1)
+
+  calm : Stays i (next given-hub handing) first-ledger rounds
+  calm =
+      calm-after i small (next given-hub handing) first-ledger rounds (eight-next given-hub handing given-eight)
+      (rounds-calm i s small positive others none m (next given-hub handing)) (going .0 .lent)
+
+  turn-is : jobAt (after (next given-hub handing) rounds .desk) i .turn ≡ min (m * s) 120
   turn-is = let t = going .0 .ready .turn in omega (arith, t)
 
   module _ (buffer : List ℕ) where
     abbrev fetching : List Call
     fetching = fetch i buffer its ∷ []
 
-    lent-later : Along next (OwnLent i) (next given-hub loading) (rounds ++ fetching)
+    lent-later : Along next (OwnLent i) (next given-hub handing) (rounds ++ fetching)
     unfolding Along
-    lent-later = along-append next (OwnLent i) (next given-hub loading) rounds fetching (going .0 .lent) (λ o z. tt, tt)
+    lent-later = along-append next (OwnLent i) (next given-hub handing) rounds fetching (going .0 .lent) (λ o z. tt, tt)
 
-    lent-all : EachLentIts i (new areas) (giving i s ∷ loading ∷ rounds ++ fetching)
+    lent-all : EachLentIts i (new areas) (giving i s ∷ handing ∷ rounds ++ fetching)
     unfolding EachLentIts Along
-    lent-all = each-of next (OwnLent i) (new areas) (giving i s ∷ loading ∷ rounds ++ fetching) (λ o z. tt, (λ o z. tt, lent-later))
+    lent-all = each-of next (OwnLent i) (new areas) (giving i s ∷ handing ∷ rounds ++ fetching) (λ o z. tt, (λ o z. tt, lent-later))
 
-    lent-since : EachLentIts i (next given-hub loading) (rounds ++ fetching)
+    lent-since : EachLentIts i (next given-hub handing) (rounds ++ fetching)
     unfolding EachLentIts
-    lent-since = each-of next (OwnLent i) (next given-hub loading) (rounds ++ fetching) lent-later
+    lent-since = each-of next (OwnLent i) (next given-hub handing) (rounds ++ fetching) lent-later
 
-    loaded-once : EachNoLoad i (next given-hub loading) (rounds ++ fetching)
+    not-brought-in : loads (after (next given-hub handing) rounds) (fetch i buffer its) ≡ false
+    not-brought-in = no-load (deskFetchRefusal _ i _ buffer) (calm .waits ∙ ap (λ (a : Seat). a .waits) loaded-seat)
+
+    loaded-once : EachNoLoad i (next given-hub handing) (rounds ++ fetching)
     unfolding EachNoLoad Along
     loaded-once =
-        each-of next (NoLoad i) (next given-hub loading) (rounds ++ fetching)
-        (along-append next (NoLoad i) (next given-hub loading) rounds fetching (along-map (going .0 .undisturbed)) (λ o t. absurd t, tt))
+        each-of next (NoLoad i) (next given-hub handing) (rounds ++ fetching)
+        (along-append next (NoLoad i) (next given-hub handing) rounds fetching (along-map (going .0 .undisturbed)) (λ o. not-brought-in, tt))
       where
-        along-map : Along next (Undisturbed i s) (next given-hub loading) rounds → Along next (NoLoad i) (next given-hub loading) rounds
-        along-map u = along-of next (NoLoad i) (next given-hub loading) rounds (λ c p. each-of next (Undisturbed i s) (next given-hub loading) rounds u c p .not-loaded)
+        along-map : Along next (Undisturbed i s) (next given-hub handing) rounds → Along next (NoLoad i) (next given-hub handing) rounds
+        along-map u = along-of next (NoLoad i) (next given-hub handing) rounds (λ c p. each-of next (Undisturbed i s) (next given-hub handing) rounds u c p .not-loaded)
 
-    fetched : 2049 ≤ length buffer → 120 ≤ m * s → Accepted (after (next given-hub loading) rounds) (fetch i buffer its)
+    loaded-by : LoadedBy i areas (giving i s ∷ []) handing l
+    unfolding ledgerAfter afterAll
+    loaded-by = record { loads = taken-in; source = ap (λ (g : Ledger). g .source) entry-is; lent = its-area }
+
+    fetched : 2049 ≤ length buffer → 120 ≤ m * s → Accepted (after (next given-hub handing) rounds) (fetch i buffer its)
     unfolding afterAll
     fetched space enough =
-        let kept = sector-demand-3 i areas (giving i s ∷ []) (rounds ++ fetching) l small its-area loaded-once lent-since in
+        let kept = sector-demand-3 i areas (giving i s ∷ []) handing (rounds ++ fetching) l small loaded-by loaded-once lent-since in
         let t = turn-is in
-        kept .fetch-accepted buffer (record { before = rounds; rest = []; is = refl }) .1 (omega (arith, t, enough), space)
+        kept .fetch-accepted buffer (record { before = rounds; rest = fetching; is = refl }) .1 (omega (arith, t, enough), space)
 
 pub served-in-rounds : ServedInRounds
 unfolding afterAll EachUndisturbed
 served-in-rounds i s areas l others m buffer small positive fits same none space =
     let g = going i s small positive fits areas l same others none m in
-    let h = next (next (new areas) (giving i s)) (load i (l .bytes) its) in
+    let h = next (next (new areas) (giving i s)) (handIn i (l .bytes) its) in
     record {
       loaded = taken-in i s small positive fits areas l same others none m;
       undisturbed = each-of next (Undisturbed i s) h (inRounds (requesting i s others m)) (g .0 .undisturbed);
       requests = g .1;
+      loaded-by = loaded-by i s small positive fits areas l same others none m buffer;
       lent = lent-all i s small positive fits areas l same others none m buffer;
       not-loaded = loaded-once i s small positive fits areas l same others none m buffer;
       turn = turn-is i s small positive fits areas l same others none m;
@@ -288,12 +348,19 @@ no-round-fewer i areas l others small same none =
 
 -- ---- a sector that is not served
 
-empty-refused : (i : ℕ) (areas : ℕ → List ℤ) → i < 8 → Accepted (new areas) (load i [] its) → ⊥
-unfolding loadRefusal headerTest
-empty-refused i areas small z = omega (arith, ap (λ (x : Answer). x .number) (own-answer (new areas) i small (eight-new areas) (load i [] its) (own-kind i)), z)
+empty-refused : (i : ℕ) (areas : ℕ → List ℤ) → i < 8 → loads (new areas) (handIn i [] its) ≡ false
+unfolding handInRefusal loadRefusal headerTest
+empty-refused i areas small = rw (sector-passes i small)
+
+-- up to the Fetch, so that none waits there
+unserved-before : (i request : ℕ) (areas : ℕ → List ℤ) → i < 8 → EachNoLoad i (new areas) (handIn i [] its ∷ run i request its ∷ begin ∷ [])
+unfolding EachNoLoad Along
+unserved-before i request areas small =
+    each-of next (NoLoad i) (new areas) (handIn i [] its ∷ run i request its ∷ begin ∷ []) (λ o. empty-refused i areas small, (λ o. refl, (λ o. refl, tt)))
 
 pub unserved-possible : UnservedPossible
-unfolding EachNoLoad Along
+unfolding EachNoLoad Along afterAll
 unserved-possible i request areas buffer small =
+    let z = never-loaded i areas (handIn i [] its ∷ run i request its ∷ begin ∷ []) small (unserved-before i request areas small) .waits in
     each-of next (NoLoad i) (new areas) (unserved i request buffer)
-    (λ o x. empty-refused i areas small, (λ o x. absurd x, (λ o x. absurd x, (λ o x. absurd x, (λ o x. absurd x, tt)))))
+    (λ o. empty-refused i areas small, (λ o. refl, (λ o. refl, (λ o. no-load (deskFetchRefusal _ i _ buffer) z, (λ o. refl, tt)))))

@@ -1,11 +1,13 @@
 -- A sector never loaded has the job (120, 0) and heard byte 0, and what its calls answer follows from that. Assumes nothing.
-use mathlib.Core.Path.{_≡_, refl, sym, ap, _∙_}
-use mathlib.Core.List.{List, [], append-nil}
+use mathlib.Core.Path.{_≡_, refl, sym, ap, ap₂, _∙_, subst}
+use mathlib.Core.Bool.{Bool, true, false, _||_}
+use mathlib.Core.List.{List, []}
 use Prim.Native.Nat.{ℕ, zero, suc, _<_}
 use native.Mathlib.Omega.{arith}
 use lib.IntN.{ℤ}
+use lib.Dec.{T, ltb}
 use lib.ListN.{getD-replicate}
-use Rattle.lists.proofs.Histories.{kept-at}
+use Rattle.lists.proofs.Histories.{along-of}
 use Rattle.refusals.proofs.Refusals.{first-alone}
 use Rattle.refusals.specs.Refusals.{first, bufferTest}
 use Rattle.result_record.specs.ResultRecord.{resultTest}
@@ -13,19 +15,20 @@ use Rattle.workspace.specs.Workspace.{workspaceTest, R}
 use Rattle.engine.specs.declared.job.Job.{Job}
 use Rattle.engine.specs.Job.{jobTest}
 use Rattle.engine.specs.Run.{RunOutcome, runRefusal, runDone}
-use Rattle.engine.specs.Fetch.{fetchRefusal}
+use Rattle.engine.specs.Fetch.{fetchRefusal, fetchBy}
 use Rattle.engine.proofs.Taken.{none-taken}
 use Rattle.desk.proofs.Accepted.{finished-passes}
 use Rattle.desk.specs.Desk.{unloadedJob}
-use Rattle.desk_laws.specs.Calls.{Lent, Call, run, fetch, heard, Hub, new, lentWords, answer, next, after, own, kind}
-use Rattle.desk_laws.specs.Unloaded.{NoLoad, EachNoLoad, ranNothing, NeverLoaded}
+use Rattle.desk_laws.specs.Calls.{Lent, Call, run, fetch, heard, new, lentWords, bare, answer, next, after, own, kind, NoLoad, EachNoLoad}
+use Rattle.desk_laws.specs.Unloaded.{ranNothing, NeverLoaded}
 use Rattle.desk_laws.specs.Sectors.{ranAnswer}
-use Rattle.desk_laws.proofs.Seats.{Seat, seat, Eight, runSeat, runNumber, fetchNumber, seatGrant, runAnswer, fetchAnswer, ownAnswer, own-kind, own-answer, eight-next, eight-new}
-use Rattle.desk_laws.proofs.Steady.{Steady, steady-next}
+use Rattle.desk_laws.proofs.Seats.{Seat, seat, seatMustWait, runSeat, runNumber, fetchNumber, seatGrant, runAnswer, fetchAnswer, ownAnswer, own-kind, own-answer, eight-after, eight-new}
+use Rattle.desk_laws.proofs.Steady.{Any, Steady, steady-after}
 
 record Empty (a : Seat) : Type 0 where
   job : a .job ≡ unloadedJob
   heard : a .heard ≡ 0
+  waits : a .waits ≡ false
 
 -- a job at its end is granted nothing
 no-grant : (a : Seat) (request : ℕ) → a .job ≡ unloadedJob → seatGrant a request ≡ 0
@@ -39,32 +42,28 @@ ran-empty zero request a lent e =
     record {
       job = ap (λ (k : ℕ). runDone (a .job) k l .reply .job) (no-grant a request (e .job)) ∙ ap (λ (o : RunOutcome). o .reply .job) (none-taken (a .job) l) ∙ e .job;
       heard = e .heard;
+      waits = e .waits;
     }
 ran-empty (suc n) request a lent e = e
 
--- whatever its share
-abbrev Any : Seat → Type 0
-Any a = Unit {0}
+-- nothing waits for it: its job is finished
+never-waits : (a : Seat) → Empty a → seatMustWait a ≡ true → ⊥
+never-waits a e f = subst T (sym f ∙ ap₂ (λ (b : Bool) (j : Job). b || ltb (j .turn) 120) (e .waits) (e .job)) tt
 
 empty-steady : Steady Any Empty
 empty-steady = record {
   ran = ran-empty;
-  began = λ a q e. record { job = e .job; heard = e .heard };
-  set = λ s a e. record { job = e .job; heard = e .heard };
+  kept = λ rec a f e. absurd (never-waits a e f);
+  began = λ a q e. record { job = e .job; heard = e .heard; waits = e .waits };
+  set = λ s a e. record { job = e .job; heard = e .heard; waits = e .waits };
 }
 
--- on a desk of eight
-record Stands (i : ℕ) (h : Hub) : Type 0 where
-  eight : Eight (h .desk)
-  empty : Empty (seat i h)
+module _ (i : ℕ) (small : i < 8) (areas : ℕ → List ℤ) where
+  pub none-waits : seat i (new areas) .waits ≡ false
+  none-waits = ap (ltb 0) (getD-replicate {A = ℕ} 8 i 0 0 small)
 
-module _ (i : ℕ) (small : i < 8) where
-  stands-next : (h : Hub) (c : Call) → Stands i h → NoLoad i h c → Stands i (next h c)
-  stands-next h c s f =
-      record { eight = eight-next h c (s .eight); empty = steady-next Any Empty empty-steady i small h c (s .eight) f (λ e. tt) (s .empty) }
-
-  stands-new : (areas : ℕ → List ℤ) → Stands i (new areas)
-  stands-new areas = record { eight = eight-new areas; empty = record { job = getD-replicate 8 i unloadedJob _ small; heard = getD-replicate 8 i 0 _ small } }
+  empty-new : Empty (seat i (new areas))
+  empty-new = record { job = getD-replicate 8 i unloadedJob _ small; heard = getD-replicate 8 i 0 _ small; waits = none-waits }
 
 -- ---- what its calls answer
 
@@ -85,20 +84,28 @@ module _ (a : Seat) (e : Empty a) where
       ap (λ (k : ℕ). ranAnswer (runDone (a .job) k l)) (no-grant a request (e .job)) ∙ ap ranAnswer (none-taken (a .job) l) ∙ ap (λ (j : Job). record { number = 0; heard = 0; job = j; count = 0; clamps-r = 0; clamps-q = 0; buffer = []; words = l }) (e .job)
   ran-nothing request (suc n) l = refl
 
+  fetched-nothing : (n : ℕ) (l : List ℤ) (buffer : List ℕ) → fetchAnswer n (a .waits) (a .waiting) l buffer ≡ bare n (fetchBy n l buffer .buffer) l
+  unfolding fetchBy
+  fetched-nothing zero l buffer = rw (e .waits)
+  fetched-nothing (suc n) l buffer = refl
+
 pub never-loaded : NeverLoaded
 unfolding EachNoLoad
 never-loaded i areas calls small f =
     let h = after (new areas) calls in
-    let s = kept-at next (Stands i) (NoLoad i) (stands-next i small) (new areas) calls (stands-new i small areas) f (record { before = calls; rest = []; is = sym (append-nil calls) }) in
     let a = seat i h in
-    let e = s .empty in
-    let told : (c : Call) → kind i c ≡ own → answer h c ≡ ownAnswer a c = λ c q. own-answer h i small (s .eight) c q in
+    let w = eight-new areas in
+    let e = steady-after Empty empty-steady i small (new areas) calls w (along-of next (NoLoad i) (new areas) calls f) (empty-new i small areas) in
+    let told : (c : Call) → kind i c ≡ own → answer h c ≡ ownAnswer a c = λ c q. own-answer h i small (eight-after (new areas) calls w) c q in
     record {
       job = e .job;
       heard = e .heard;
+      waits = e .waits;
       run = λ request lent.
           told (run i request lent) (own-kind i) ∙ ran-nothing a e request (runNumber a request lent) (lentWords (a .area) lent)
           ∙ ap (λ (n : ℕ). ranNothing n (lentWords (a .area) lent)) (run-refused a e request lent);
       fetch = λ buffer lent.
-          told (fetch i buffer lent) (own-kind i) ∙ ap (λ (n : ℕ). fetchAnswer n (lentWords (a .area) lent) buffer) (fetch-refused a e buffer lent);
+          let l = lentWords (a .area) lent in
+          told (fetch i buffer lent) (own-kind i) ∙ fetched-nothing a e (fetchNumber a buffer lent) l buffer
+          ∙ ap (λ (n : ℕ). bare n (fetchBy n l buffer .buffer) l) (fetch-refused a e buffer lent);
     }

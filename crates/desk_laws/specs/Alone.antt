@@ -1,5 +1,6 @@
 -- Document 02, U7: a sector's area is as if it had run alone with the turns granted, and so are its job and its heard byte. Assumes nothing.
 use mathlib.Core.Path.{_≡_}
+use mathlib.Core.Bool.{Bool, true, false}
 use mathlib.Core.List.{List, [], _∷_, _++_}
 use Prim.Native.Nat.{ℕ, zero, suc, _<_}
 use lib.IntN.{ℤ}
@@ -8,7 +9,8 @@ use Rattle.engine.specs.declared.job.Job.{Job}
 use Rattle.engine.specs.Load.{loadOf}
 use Rattle.engine.specs.Run.{runOf}
 use Rattle.desk.specs.Desk.{sectorCount, jobAt, heardAt}
-use Rattle.desk_laws.specs.Calls.{Call, load, run, fetch, heard, begin, setShares, Hub, new, answer, next, after, Kind, own, other, round, setting, kind, EachLentIts}
+use Rattle.desk_laws.specs.Calls.{Call, handIn, run, fetch, heard, begin, setShares, Hub, new, loads, answer, next, after, Kind, own, other, round, setting, kind, EachLentIts}
+use Rattle.desk_laws.specs.Ledger.{Handed, nothing, matrix, Ledger, fresh, noted}
 
 -- ---- one area alone, by the engine's own calls
 
@@ -36,27 +38,33 @@ aloneNext a (turns k) = let o = runOf (a .job) k (a .area) in record { job = o .
 abbrev pub aloneAfter : Alone → List Work → Alone
 aloneAfter a works = afterAll aloneNext a works
 
--- ---- what the desk had the engine do for a sector: the records of its accepted Loads, and the turns granted to its accepted Runs
+-- ---- what the desk had the engine do for a sector: Load of the records that it was loaded from, and the turns granted to its accepted Runs
 
-abbrev pub workOf : Call → ℕ → List Work
-workOf (load i rec lent) count = loading rec ∷ []
-workOf (run i request lent) count = turns count ∷ []
-workOf (fetch i buffer lent) count = []
-workOf (heard i) count = []
-workOf begin count = []
-workOf (setShares shares eight) count = []
+abbrev pub loadWork : Bool → Handed → List Work
+loadWork true (matrix rec) = loading rec ∷ []
+loadWork true nothing = []
+loadWork false m = []
 
--- by kind, and by the call's number
-abbrev pub worksOf : Kind → ℕ → Call → ℕ → List Work
-worksOf own zero c count = workOf c count
-worksOf own (suc n) c count = []
-worksOf other n c count = []
-worksOf round n c count = []
-worksOf (setting s) n c count = []
+abbrev pub runWork : Call → ℕ → List Work
+runWork (handIn i rec lent) count = []
+runWork (run i request lent) count = turns count ∷ []
+runWork (fetch i buffer lent) count = []
+runWork (heard i) count = []
+runWork begin count = []
+runWork (setShares shares eight) count = []
 
-unfoldable pub works : ℕ → Hub → List Call → List Work
-works i h [] = []
-works i h (c ∷ calls) = worksOf (kind i c) (answer h c .number) c (answer h c .count) ++ works i (next h c) calls
+-- by kind, and by the call's number; `source` is what the job is loaded from, where the call loads
+abbrev pub worksOf : Kind → ℕ → Bool → Handed → Call → ℕ → List Work
+worksOf own zero b source c count = loadWork b source ++ runWork c count
+worksOf own (suc n) b source c count = []
+worksOf other n b source c count = []
+worksOf round n b source c count = []
+worksOf (setting s) n b source c count = []
+
+unfoldable pub works : ℕ → Hub → Ledger → List Call → List Work
+works i h g [] = []
+works i h g (c ∷ calls) =
+    worksOf (kind i c) (answer h c .number) (loads h c) (noted i h c g .source) c (answer h c .count) ++ works i (next h c) (noted i h c g) calls
 
 -- ---- the law
 
@@ -65,4 +73,4 @@ standing i h = record { job = jobAt (h .desk) i; heard = heardAt (h .desk) i; ar
 
 abbrev pub AsAlone : Type 0
 AsAlone = (i : ℕ) (areas : ℕ → List ℤ) (calls : List Call) → i < sectorCount → EachLentIts i (new areas) calls
-    → standing i (after (new areas) calls) ≡ aloneAfter (standing i (new areas)) (works i (new areas) calls)
+    → standing i (after (new areas) calls) ≡ aloneAfter (standing i (new areas)) (works i (new areas) fresh calls)

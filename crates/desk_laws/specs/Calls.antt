@@ -1,7 +1,7 @@
--- Document 02, U7 and U10: lists of calls at the desk, refused ones among them, each handed the desk that the one before answered. A sector's area is written by its
--- own calls and by nobody else. Each call does what its own definition says, which its contract equates the code with. Assumes nothing.
+-- Document 02, U7, U10 and U11: lists of calls at the desk, refused ones among them, each handed the desk that the one before answered. A sector's area is
+-- written by its own calls and by nobody else. Each call does what its own definition says, which its contract equates the code with. Assumes nothing.
 use mathlib.Core.Path.{_≡_}
-use mathlib.Core.Bool.{cond}
+use mathlib.Core.Bool.{Bool, true, false, not, cond}
 use mathlib.Core.List.{List, []}
 use Prim.Native.Nat.{ℕ, zero, suc}
 use lib.Dec.{eqb}
@@ -11,24 +11,24 @@ use Rattle.lists.specs.Histories.{afterAll, Each}
 use Rattle.engine.specs.declared.job.Job.{Job}
 use Rattle.engine.specs.Job.{noJob}
 use Rattle.desk.specs.declared.Desk.{Desk}
-use Rattle.desk.specs.Desk.{sectorCount, newDesk, beginOf}
-use Rattle.desk.specs.Load.{deskLoadOf}
+use Rattle.desk.specs.Desk.{sectorCount, newDesk, waitsAt, beginOf}
+use Rattle.desk.specs.HandIn.{handInRefusal, mustWait, handInOf}
 use Rattle.desk.specs.Run.{deskRunOf}
-use Rattle.desk.specs.Fetch.{deskFetchOf}
+use Rattle.desk.specs.Fetch.{deskFetchRefusal, deskFetchOf}
 use Rattle.desk.specs.Heard.{deskHeardOf}
 use Rattle.desk.specs.Shares.{sharesTest, setSharesOf}
 
 -- ---- a call
 
--- the area that it is lent: that of its sector, as the call before left it, or any other
+-- the area that it is lent: that of its sector, which is the one that the last load filled, as the call before left it; or any other
 pub data Lent : Type 0 where
   its : Lent
   another : List ℤ → Lent
 
--- for a sector: Load with a record, Run with a request, Fetch with its buffer as it is handed over, and the heard byte; or for all: a round begins, or all
--- eight shares are set
+-- for a sector: a hand-in with a record, Run with a request, Fetch with its buffer as it is handed over, and the heard byte; or for all: a round begins, or
+-- all eight shares are set
 pub data Call : Type 0 where
-  load : ℕ → List ℕ → Lent → Call
+  handIn : ℕ → List ℕ → Lent → Call
   run : ℕ → ℕ → Lent → Call
   fetch : ℕ → List ℕ → Lent → Call
   heard : ℕ → Call
@@ -45,18 +45,35 @@ pub record Hub : Type 0 where
 abbrev pub new : (ℕ → List ℤ) → Hub
 new areas = record { desk = newDesk; area = areas }
 
--- the words that a call is lent, and the sector's area after a call that left the words l in what it was lent
+-- the words that a call is lent
 abbrev pub lentWords : List ℤ → Lent → List ℤ
 lentWords area its = area
 lentWords area (another m) = m
 
-abbrev pub leftIn : List ℤ → Lent → List ℤ → List ℤ
-leftIn area its l = l
-leftIn area (another m) l = area
+-- the sector's area after a call that left the words l in what it was lent: the area that a load filled is the sector's from there on
+abbrev pub leftIn : Bool → List ℤ → Lent → List ℤ → List ℤ
+leftIn true area lent l = l
+leftIn false area its l = l
+leftIn false area (another m) l = area
 
 -- the areas with that of one sector replaced
 unfoldable pub put : (ℕ → List ℤ) → ℕ → List ℤ → ℕ → List ℤ
 put areas sector l k = cond (eqb k sector) l (areas k)
+
+-- ---- whether a call loads its sector: a hand-in that need not wait, or a Fetch that brings in the one that waits
+
+-- by the number of its tests: a refused call loads nothing
+abbrev pub loadsIf : ℕ → Bool → Bool
+loadsIf zero b = b
+loadsIf (suc n) b = false
+
+abbrev pub loads : Hub → Call → Bool
+loads h (handIn i rec lent) = loadsIf (handInRefusal i rec (lentWords (h .area i) lent)) (not (mustWait (h .desk) i))
+loads h (run i request lent) = false
+loads h (fetch i buffer lent) = loadsIf (deskFetchRefusal (h .desk) i (lentWords (h .area i) lent) buffer) (waitsAt (h .desk) i)
+loads h (heard i) = false
+loads h begin = false
+loads h (setShares shares eight) = false
 
 -- ---- a call, by its own definition
 
@@ -77,8 +94,8 @@ bare number buffer words =
     record { number = number; heard = 0; job = noJob; count = 0; clamps-r = 0; clamps-q = 0; buffer = buffer; words = words }
 
 unfoldable pub answer : Hub → Call → Answer
-answer h (load i rec lent) =
-    let o = deskLoadOf (h .desk) i rec (lentWords (h .area i) lent) in
+answer h (handIn i rec lent) =
+    let o = handInOf (h .desk) i rec (lentWords (h .area i) lent) in
     let r = o .reply in
     record { number = r .number; heard = r .heard; job = r .job; count = 0; clamps-r = 0; clamps-q = 0; buffer = []; words = o .area }
 answer h (run i request lent) =
@@ -86,9 +103,8 @@ answer h (run i request lent) =
     let r = o .reply in
     record { number = r .number; heard = 0; job = r .job; count = r .count; clamps-r = r .«clamps_r»; clamps-q = r .«clamps_q»; buffer = []; words = o .area }
 answer h (fetch i buffer lent) =
-    let l = lentWords (h .area i) lent in
-    let o = deskFetchOf (h .desk) i l buffer in
-    bare (o .reply .number) (o .buffer) l
+    let o = deskFetchOf (h .desk) i (lentWords (h .area i) lent) buffer in
+    bare (o .reply .number) (o .buffer) (o .area)
 answer h (heard i) =
     let r = deskHeardOf (h .desk) i in
     record { number = r .number; heard = r .heard; job = noJob; count = 0; clamps-r = 0; clamps-q = 0; buffer = []; words = [] }
@@ -97,13 +113,15 @@ answer h (setShares shares eight) = bare (setSharesOf (h .desk) shares .number) 
 
 -- the desk that it answers, and the areas
 unfoldable pub next : Hub → Call → Hub
-next h (load i rec lent) =
-    let o = deskLoadOf (h .desk) i rec (lentWords (h .area i) lent) in
-    record { desk = o .reply .desk; area = put (h .area) i (leftIn (h .area i) lent (o .area)) }
+next h (handIn i rec lent) =
+    let o = handInOf (h .desk) i rec (lentWords (h .area i) lent) in
+    record { desk = o .reply .desk; area = put (h .area) i (leftIn (loads h (handIn i rec lent)) (h .area i) lent (o .area)) }
 next h (run i request lent) =
     let o = deskRunOf (h .desk) i request (lentWords (h .area i) lent) in
-    record { desk = o .reply .desk; area = put (h .area) i (leftIn (h .area i) lent (o .area)) }
-next h (fetch i buffer lent) = record { desk = deskFetchOf (h .desk) i (lentWords (h .area i) lent) buffer .reply .desk; area = h .area }
+    record { desk = o .reply .desk; area = put (h .area) i (leftIn false (h .area i) lent (o .area)) }
+next h (fetch i buffer lent) =
+    let o = deskFetchOf (h .desk) i (lentWords (h .area i) lent) buffer in
+    record { desk = o .reply .desk; area = put (h .area) i (leftIn (loads h (fetch i buffer lent)) (h .area i) lent (o .area)) }
 next h (heard i) = record { desk = deskHeardOf (h .desk) i .desk; area = h .area }
 next h begin = record { desk = beginOf (h .desk) .desk; area = h .area }
 next h (setShares shares eight) = record { desk = setSharesOf (h .desk) shares .desk; area = h .area }
@@ -132,12 +150,24 @@ settingBy zero share = setting share
 settingBy (suc n) share = other
 
 abbrev pub kind : ℕ → Call → Kind
-kind i (load j rec lent) = ownOr i j
+kind i (handIn j rec lent) = ownOr i j
 kind i (run j request lent) = ownOr i j
 kind i (fetch j buffer lent) = ownOr i j
 kind i (heard j) = ownOr i j
 kind i begin = round
 kind i (setShares shares eight) = settingBy (sharesTest shares) (getD shares i 0)
+
+-- ---- what is said of a sector's calls
+
+-- the call loads sector i; or it does not, and no call of a list does
+abbrev pub Loads : ℕ → Hub → Call → Type 0
+Loads i h c = (kind i c ≡ own) × (loads h c ≡ true)
+
+abbrev pub NoLoad : ℕ → Hub → Call → Type 0
+NoLoad i h c = kind i c ≡ own → loads h c ≡ false
+
+unfoldable pub EachNoLoad : ℕ → Hub → List Call → Type 0
+EachNoLoad i h calls = Each next (NoLoad i) h calls
 
 -- the call is lent its sector's area, where it is lent one
 abbrev pub Its : Lent → Type 0
@@ -145,7 +175,7 @@ Its its = Unit {0}
 Its (another m) = ⊥
 
 abbrev pub LentIts : Call → Type 0
-LentIts (load i rec lent) = Its lent
+LentIts (handIn i rec lent) = Its lent
 LentIts (run i request lent) = Its lent
 LentIts (fetch i buffer lent) = Its lent
 LentIts (heard i) = Unit {0}

@@ -1,5 +1,6 @@
 -- Document 02, U10: a loaded sector, not loaded again, with an unchanged share s above 0 that requests s, with an area of at least 512 words, in every round
--- begun after the load, finishes within 120 divided by s such rounds, rounded up. Assumes nothing.
+-- begun after the load, finishes within 120 divided by s such rounds, rounded up. With U11 a load is a hand-in that is loaded directly or a Fetch that brings one
+-- in. Assumes nothing.
 use mathlib.Core.Path.{_≡_}
 use mathlib.Core.List.{List, [], _∷_, _++_}
 use Prim.Native.Nat.{ℕ, _+_, _-_, _/_, _≤_, _<_}
@@ -9,8 +10,7 @@ use Rattle.lists.specs.Histories.{Place, Each}
 use Rattle.schedule.specs.Schedule.{rotationCount}
 use Rattle.workspace.specs.Workspace.{workspaceWords}
 use Rattle.desk.specs.Desk.{sectorCount, jobAt, shareAt}
-use Rattle.desk_laws.specs.Calls.{Lent, Call, load, run, begin, Hub, new, lentWords, next, after, Accepted, round, kind}
-use Rattle.desk_laws.specs.Unloaded.{NoLoad}
+use Rattle.desk_laws.specs.Calls.{Lent, Call, run, begin, Hub, new, lentWords, next, after, round, kind, Loads, NoLoad}
 
 -- where a round begins the sector has share s, and no call loads it
 pub record Undisturbed (i s : ℕ) (h : Hub) (c : Call) : Type 0 where
@@ -41,11 +41,11 @@ EachRequests i s h (calls ∷ rounds) = Requests i s (next h begin) calls × Eac
 abbrev pub roundedUp : ℕ → ℕ → ℕ
 roundedUp n s = (n + s - 1) / s
 
--- after any calls the sector is loaded, with any area; the rest of that round follows, and then rounds. Other calls of its own and of others may stand
--- anywhere, refused ones too, and in the rest more rounds may begin
+-- after any calls the call c loads the sector, directly or by bringing in, with any area; the rest of that round follows, and then rounds. Other calls of
+-- its own and of others may stand anywhere, refused ones too, and in the rest more rounds may begin
 abbrev pub FinishesInTime : Type 0
-FinishesInTime = (i s : ℕ) (areas : ℕ → List ℤ) (before : List Call) (rec : List ℕ) (lent : Lent) (rest : List Call) (rounds : List (List Call)) → i < sectorCount → 0 < s
+FinishesInTime = (i s : ℕ) (areas : ℕ → List ℤ) (before : List Call) (c : Call) (rest : List Call) (rounds : List (List Call)) → i < sectorCount → 0 < s
     → (let h = after (new areas) before in
-    let g = next h (load i rec lent) in
-    Accepted h (load i rec lent) → EachUndisturbed i s g (rest ++ inRounds rounds) → EachRequests i s (after g rest) rounds
+    let g = next h c in
+    Loads i h c → EachUndisturbed i s g (rest ++ inRounds rounds) → EachRequests i s (after g rest) rounds
     → roundedUp rotationCount s ≤ length rounds → jobAt (after g (rest ++ inRounds rounds) .desk) i .turn ≡ rotationCount)

@@ -6,9 +6,9 @@ use Prim.Native.Nat.{ℕ, _≤_, _<_}
 use lib.IntN.{ℤ}
 use lib.ListN.{length, getD}
 use Rattle.lists.specs.Histories.{Place}
-use Rattle.desk.specs.Desk.{sectorCount, roundTurns, shareAt, leftAt}
+use Rattle.desk.specs.Desk.{sectorCount, roundTurns, shareAt, leftAt, waitsAt, waitingAt}
 use Rattle.desk.specs.Shares.{totalOf}
-use Rattle.desk_laws.specs.Calls.{Lent, Call, load, run, fetch, heard, setShares, Hub, new, Answer, answer, next, after, Kind, own, other, round, setting, kind}
+use Rattle.desk_laws.specs.Calls.{Lent, Call, handIn, run, fetch, heard, setShares, Hub, new, Answer, answer, next, after, Kind, own, other, round, setting, kind}
 use Rattle.desk_laws.specs.Alone.{standing}
 
 -- what concerns a sector in a list of calls: its own calls, refused ones too, where rounds begin, and the shares that it is given. No call of another sector
@@ -39,12 +39,14 @@ unfoldable pub answers : ℕ → Hub → List Call → List Answer
 answers i h [] = []
 answers i h (c ∷ calls) = told (kind i c) (answer h c) (answers i (next h c) calls)
 
--- the sector's calls are answered the same, grants and all, and its job, heard byte, area, share and count are the same in the end
+-- the sector's calls are answered the same, grants and all, and its job, heard byte, area, share, count and what waits are the same in the end
 pub record SameFor (i : ℕ) (h g : Hub) (calls calls′ : List Call) : Type 0 where
   pub answered : answers i h calls ≡ answers i g calls′
   pub stands : standing i (after h calls) ≡ standing i (after g calls′)
   pub share : shareAt (after h calls .desk) i ≡ shareAt (after g calls′ .desk) i
   pub left : leftAt (after h calls .desk) i ≡ leftAt (after g calls′ .desk) i
+  pub waits : waitsAt (after h calls .desk) i ≡ waitsAt (after g calls′ .desk) i
+  pub waiting : waitingAt (after h calls .desk) i ≡ waitingAt (after g calls′ .desk) i
 
 abbrev pub Isolation : Type 0
 Isolation = (i : ℕ) (areas areas′ : ℕ → List ℤ) (calls calls′ : List Call) → i < sectorCount → areas i ≡ areas′ i
@@ -57,7 +59,7 @@ WithoutOthers = (i : ℕ) (areas areas′ : ℕ → List ℤ) (before others res
 
 -- these are no affair of sector i: each call for another sector j, with whatever it is handed, and shares above 120 in total
 pub record Unseen (i j : ℕ) : Type 0 where
-  pub load : (rec : List ℕ) (lent : Lent) → kind i (load j rec lent) ≡ other
+  pub hand-in : (rec : List ℕ) (lent : Lent) → kind i (handIn j rec lent) ≡ other
   pub run : (request : ℕ) (lent : Lent) → kind i (run j request lent) ≡ other
   pub fetch : (buffer : List ℕ) (lent : Lent) → kind i (fetch j buffer lent) ≡ other
   pub heard : kind i (heard j) ≡ other

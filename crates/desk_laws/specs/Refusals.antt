@@ -1,16 +1,16 @@
--- Document 02, U7 and U10: a refused call answers its number and the desk as it was, all other fields 0, and changes neither area nor buffer; and a sector above 7 is
--- refused with 12, ahead of all other numbers: on every desk, also one that a host made up. Assumes nothing.
+-- Document 02, U7, U10 and U11: a refused call answers its number and the desk as it was, all other fields 0, and changes neither area nor buffer; and a
+-- sector above 7 is refused with 12, ahead of all other numbers: on every desk, also one that a host made up. Assumes nothing.
 use mathlib.Core.Path.{_≡_}
 use mathlib.Core.List.{List, []}
 use Prim.Native.Nat.{ℕ, _≤_}
 use lib.IntN.{ℤ}
 use Rattle.refusals.specs.Refusals.{noSuchSector}
 use Rattle.desk.specs.Desk.{sectorCount}
-use Rattle.desk_laws.specs.Calls.{Lent, Call, load, run, fetch, heard, begin, setShares, Hub, lentWords, bare, answer, next, Accepted}
+use Rattle.desk_laws.specs.Calls.{Lent, Call, handIn, run, fetch, heard, begin, setShares, Hub, lentWords, bare, answer, next, Accepted}
 
 -- the bytes and the words that a call is lent
 abbrev pub bufferLent : Call → List ℕ
-bufferLent (load i rec lent) = []
+bufferLent (handIn i rec lent) = []
 bufferLent (run i request lent) = []
 bufferLent (fetch i buffer lent) = buffer
 bufferLent (heard i) = []
@@ -18,7 +18,7 @@ bufferLent begin = []
 bufferLent (setShares shares eight) = []
 
 abbrev pub wordsLent : Hub → Call → List ℤ
-wordsLent h (load i rec lent) = lentWords (h .area i) lent
+wordsLent h (handIn i rec lent) = lentWords (h .area i) lent
 wordsLent h (run i request lent) = lentWords (h .area i) lent
 wordsLent h (fetch i buffer lent) = lentWords (h .area i) lent
 wordsLent h (heard i) = []
@@ -35,7 +35,7 @@ RefusalsChangeNothing = (h : Hub) (c : Call) → (Accepted h c → ⊥) → Unch
 
 -- so there are refused calls, whatever the desk, the areas and all that a call is handed
 pub record NoSector (h : Hub) (i : ℕ) : Type 0 where
-  pub load : (rec : List ℕ) (lent : Lent) → answer h (load i rec lent) .number ≡ noSuchSector
+  pub hand-in : (rec : List ℕ) (lent : Lent) → answer h (handIn i rec lent) .number ≡ noSuchSector
   pub run : (request : ℕ) (lent : Lent) → answer h (run i request lent) .number ≡ noSuchSector
   pub fetch : (buffer : List ℕ) (lent : Lent) → answer h (fetch i buffer lent) .number ≡ noSuchSector
   pub heard : answer h (heard i) .number ≡ noSuchSector

@@ -1,7 +1,8 @@
--- Demand 3 for each sector, from its last accepted Load on: the sector's calls, as the desk has the engine make them, are a list of calls that meets demand
--- 3's premise, and what they answer is what the desk's calls answer. Assumes nothing.
+-- Demand 3 for each sector, from a load on, direct or by a Fetch that brings in: the sector's calls, as the desk has the engine make them, are a list of
+-- calls that meets demand 3's premise, and what they answer is what the desk's calls answer. Assumes nothing.
 use mathlib.Core.Path.{_≡_}
 use mathlib.Core.Logic.{_↔_}
+use mathlib.Core.Bool.{false}
 use mathlib.Core.List.{List, [], _∷_, _++_}
 use Prim.Native.Nat.{ℕ, zero, suc, _≤_, _<_}
 use lib.IntN.{ℤ}
@@ -17,8 +18,9 @@ use Rattle.accuracy.specs.Factorization.{Factorization}
 use Rattle.accuracy.specs.Demand3.{Load, State, RunCall, FetchCall, ran, refusal, fetched, start, EachInStep, Kept}
 use Rattle.accuracy.specs.Demand3 as engine
 use Rattle.desk.specs.Desk.{sectorCount, jobAt}
-use Rattle.desk_laws.specs.Calls.{Lent, its, another, Call, load, run, fetch, heard, begin, setShares, Hub, new, Answer, bare, answer, next, after, Accepted, Kind, own, other, round, setting, kind, EachLentIts}
-use Rattle.desk_laws.specs.Unloaded.{EachNoLoad}
+use Rattle.desk_laws.specs.Calls.{Lent, its, another, Call, handIn, run, fetch, heard, begin, setShares, Hub, new, loads, Answer, bare, answer, next, after, Accepted, Kind, own, other, round, setting, kind, Loads, EachNoLoad, EachLentIts}
+use Rattle.desk_laws.specs.Refusals.{wordsLent}
+use Rattle.desk_laws.specs.Ledger.{matrix, ledger}
 
 -- ---- the sector's calls as the engine has them
 
@@ -39,7 +41,7 @@ abbrev pub engineCall : Kind → ℕ → Job → Call → ℕ → List engine.Ca
 engineCall own zero job (run i request lent) count = engine.run (engineRun job count lent) ∷ []
 engineCall own (suc n) job (run i request lent) count = []
 engineCall own number job (fetch i buffer lent) count = engine.fetch (engineFetch job buffer lent) ∷ []
-engineCall own number job (load i rec lent) count = []
+engineCall own number job (handIn i rec lent) count = []
 engineCall own number job (heard i) count = []
 engineCall own number job begin count = []
 engineCall own number job (setShares shares eight) count = []
@@ -55,22 +57,22 @@ engineCalls i h (c ∷ calls) = engineCall (kind i c) (answer h c .number) (jobA
 abbrev pub stateAfter : ℕ → Load → Hub → List Call → State
 stateAfter i l g calls = afterAll engine.after (start l) (engineCalls i g calls)
 
--- ---- what is promised of the sector's calls after a Load
+-- ---- what is promised of the sector's calls after a load
 
--- the sector's area and job are those of that account, and the turns granted since the Load are the turn number
+-- the sector's area and job are those of that account, and the turns granted since the load are the turn number
 pub record Follows (i : ℕ) (h : Hub) (s : State) : Type 0 where
   pub area : h .area i ≡ s .workspace
   pub job : jobAt (h .desk) i ≡ s .job
   pub granted : jobAt (h .desk) i .turn ≡ s .granted
 
--- a Run and a Fetch of the engine as an answer of the desk
+-- a Run and a Fetch of the engine as an answer of the desk; what a Fetch leaves in the area is the desk's affair
 abbrev pub ranAnswer : RunOutcome → Answer
 ranAnswer o =
     let r = o .reply in
     record { number = r .number; heard = 0; job = r .job; count = r .count; clamps-r = r .«clamps_r»; clamps-q = r .«clamps_q»; buffer = []; words = o .workspace }
 
-abbrev pub fetchedAnswer : State → FetchCall → Answer
-fetchedAnswer s f = bare (refusal s (engine.fetch f)) (fetched s f) (s .workspace)
+abbrev pub fetchedAnswer : State → FetchCall → List ℤ → Answer
+fetchedAnswer s f words = bare (refusal s (engine.fetch f)) (fetched s f) words
 
 pub record SectorKept (i : ℕ) (l : Load) (g : Hub) (calls : List Call) : Type 0 where
   -- demand 3's premise, and its promise
@@ -83,17 +85,21 @@ pub record SectorKept (i : ℕ) (l : Load) (g : Hub) (calls : List Call) : Type 
       → (let h = after g (p .before) in
       let a = answer h (run i request its) in
       a .number ≡ 0 → a ≡ ranAnswer (ran (stateAfter i l g (p .before)) (engineRun (jobAt (h .desk) i) (a .count) its)))
-  -- and about what its Fetches answer, refused ones too
-  pub fetches : (buffer : List ℕ) (p : Place (fetch i buffer its) calls)
-      → (let h = after g (p .before) in answer h (fetch i buffer its) ≡ fetchedAnswer (stateAfter i l g (p .before)) (engineFetch (jobAt (h .desk) i) buffer its))
+  -- and about what a Fetch answers at any point, a refused one too and one that brings in; one that does not leaves the area as it was
+  pub fetches : (buffer : List ℕ) (p : Point calls)
+      → (let h = after g (p .before) in
+      let s = stateAfter i l g (p .before) in
+      let c = fetch i buffer its in
+      let a = answer h c in
+      (a ≡ fetchedAnswer s (engineFetch (jobAt (h .desk) i) buffer its) (a .words)) × (loads h c ≡ false → a .words ≡ s .workspace))
   -- so no Run, a refused one too, clamps a word
   pub no-clamps : (request : ℕ) (lent : Lent) (p : Place (run i request lent) calls)
       → (let a = answer (after g (p .before)) (run i request lent) in (a .clamps-r ≡ 0) × (a .clamps-q ≡ 0))
   -- a Fetch is accepted exactly when all 120 turns were granted and its buffer has 2,049 bytes or more
-  pub fetch-accepted : (buffer : List ℕ) (p : Place (fetch i buffer its) calls)
+  pub fetch-accepted : (buffer : List ℕ) (p : Point calls)
       → (let h = after g (p .before) in Accepted h (fetch i buffer its) ↔ ((rotationCount ≤ jobAt (h .desk) i .turn) × (resultBytes ≤ length buffer)))
   -- and then writes the record of the area's R and Q
-  pub written : (buffer : List ℕ) (p : Place (fetch i buffer its) calls)
+  pub written : (buffer : List ℕ) (p : Point calls)
       → (let h = after g (p .before) in
       Accepted h (fetch i buffer its) → answer h (fetch i buffer its) .buffer ≡ resultRecord (R (h .area i)) (Q (h .area i)) ++ drop resultBytes buffer)
   -- which are a factorization of the matrix that the sector was loaded with, from the moment on when all 120 turns were granted
@@ -101,9 +107,13 @@ pub record SectorKept (i : ℕ) (l : Load) (g : Hub) (calls : List Call) : Type 
       → (let h = after g (p .before) in
       rotationCount ≤ jobAt (h .desk) i .turn → Factorization (realEntry (l .bytes)) (R (h .area i)) (Q (h .area i)))
 
--- for a Load that the engine accepts with the sector's area as it stands, after any calls, and the calls after it among which the sector is not loaded again
+-- the call c loads the sector: from this record, as the ledger has it, into these words
+pub record LoadedBy (i : ℕ) (areas : ℕ → List ℤ) (before : List Call) (c : Call) (l : Load) : Type 0 where
+  pub loads : Loads i (after (new areas) before) c
+  pub source : ledger i areas (before ++ c ∷ []) .source ≡ matrix (l .bytes)
+  pub lent : wordsLent (after (new areas) before) c ≡ l .lent
+
+-- for a load after any calls, and the calls after it among which the sector is not loaded again
 abbrev pub SectorDemand3 : Type 0
-SectorDemand3 = (i : ℕ) (areas : ℕ → List ℤ) (before calls : List Call) (l : Load) → i < sectorCount
-    → (let h = after (new areas) before in
-    let g = next h (load i (l .bytes) its) in
-    l .lent ≡ h .area i → EachNoLoad i g calls → EachLentIts i g calls → SectorKept i l g calls)
+SectorDemand3 = (i : ℕ) (areas : ℕ → List ℤ) (before : List Call) (c : Call) (calls : List Call) (l : Load) → i < sectorCount → LoadedBy i areas before c l
+    → (let g = next (after (new areas) before) c in EachNoLoad i g calls → EachLentIts i g calls → SectorKept i l g calls)

@@ -9,11 +9,11 @@ use Rattle.schedule.specs.Schedule.{rotationCount}
 use Rattle.result_record.specs.ResultRecord.{resultBytes}
 use Rattle.accuracy.specs.Demand3.{Load}
 use Rattle.desk.specs.Desk.{sectorCount, roundTurns, jobAt}
-use Rattle.desk_laws.specs.Calls.{its, Call, load, run, fetch, heard, begin, setShares, Hub, new, after, Accepted, other, kind, EachLentIts}
-use Rattle.desk_laws.specs.Unloaded.{EachNoLoad}
+use Rattle.desk_laws.specs.Calls.{its, Call, handIn, run, fetch, heard, begin, setShares, Hub, new, after, Accepted, other, kind, Loads, EachNoLoad, EachLentIts}
+use Rattle.desk_laws.specs.Sectors.{LoadedBy}
 use Rattle.desk_laws.specs.Finish.{EachUndisturbed, inRounds, EachRequests, roundedUp}
 
--- ---- a sector is given a share and loaded; then, in each of some rounds, others do what they like, and it requests its share
+-- ---- a sector is given a share and a matrix is handed in; then, in each of some rounds, others do what they like, and it requests its share
 
 -- s for the sector, and none for the others
 abbrev pub onlyFor : ℕ → ℕ → List ℕ
@@ -25,20 +25,21 @@ giving i s = setShares (onlyFor i s) (length-set (replicate sectorCount 0) i s)
 abbrev pub requesting : ℕ → ℕ → List Call → ℕ → List (List Call)
 requesting i s others m = replicate m (others ++ run i s its ∷ [])
 
--- the hub after the Load, and after m rounds
+-- the hub after the hand-in, and after m rounds
 abbrev pub loadedHub : ℕ → ℕ → (ℕ → List ℤ) → Load → Hub
-loadedHub i s areas l = after (new areas) (giving i s ∷ load i (l .bytes) its ∷ [])
+loadedHub i s areas l = after (new areas) (giving i s ∷ handIn i (l .bytes) its ∷ [])
 
 abbrev pub servedHub : ℕ → ℕ → (ℕ → List ℤ) → Load → List Call → ℕ → Hub
 servedHub i s areas l others m = after (loadedHub i s areas l) (inRounds (requesting i s others m))
 
 pub record Served (i s : ℕ) (areas : ℕ → List ℤ) (l : Load) (others : List Call) (m : ℕ) (buffer : List ℕ) : Type 0 where
   -- the premises of `FinishesInTime`
-  pub loaded : Accepted (after (new areas) (giving i s ∷ [])) (load i (l .bytes) its)
+  pub loaded : Loads i (after (new areas) (giving i s ∷ [])) (handIn i (l .bytes) its)
   pub undisturbed : EachUndisturbed i s (loadedHub i s areas l) (inRounds (requesting i s others m))
   pub requests : EachRequests i s (loadedHub i s areas l) (requesting i s others m)
   -- those of `AsAlone` and `SectorDemand3`
-  pub lent : EachLentIts i (new areas) (giving i s ∷ load i (l .bytes) its ∷ inRounds (requesting i s others m) ++ fetch i buffer its ∷ [])
+  pub loaded-by : LoadedBy i areas (giving i s ∷ []) (handIn i (l .bytes) its) l
+  pub lent : EachLentIts i (new areas) (giving i s ∷ handIn i (l .bytes) its ∷ inRounds (requesting i s others m) ++ fetch i buffer its ∷ [])
   pub not-loaded : EachNoLoad i (loadedHub i s areas l) (inRounds (requesting i s others m) ++ fetch i buffer its ∷ [])
   -- each round grants the share, as long as the job has so much left
   pub turn : jobAt (servedHub i s areas l others m .desk) i .turn ≡ min (m * s) rotationCount
@@ -59,9 +60,9 @@ abbrev pub NoRoundFewer : Type 0
 NoRoundFewer = (i : ℕ) (areas : ℕ → List ℤ) (l : Load) (others : List Call) → i < sectorCount → l .lent ≡ areas i
     → ((c : Call) → Place c others → kind i c ≡ other) → Sharp i areas l others
 
--- ---- a sector whose only Load is refused, and that makes each other call of its own
+-- ---- a sector whose only hand-in is refused, and that makes each other call of its own
 abbrev pub unserved : ℕ → ℕ → List ℕ → List Call
-unserved i request buffer = load i [] its ∷ run i request its ∷ begin ∷ fetch i buffer its ∷ heard i ∷ []
+unserved i request buffer = handIn i [] its ∷ run i request its ∷ begin ∷ fetch i buffer its ∷ heard i ∷ []
 
 abbrev pub UnservedPossible : Type 0
 UnservedPossible = (i request : ℕ) (areas : ℕ → List ℤ) (buffer : List ℕ) → i < sectorCount → EachNoLoad i (new areas) (unserved i request buffer)

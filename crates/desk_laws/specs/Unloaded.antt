@@ -1,31 +1,16 @@
--- Document 02, U7: a sector never loaded has the job (120, 0) and heard byte 0. So its Run makes nothing, and its Fetch is refused by 3, 7 or 8 alone.
--- Assumes nothing.
+-- Document 02, U7: a sector never loaded has the job (120, 0) and heard byte 0, and no matrix of its own waits. So its Run makes nothing, and its Fetch is
+-- refused by 3, 7 or 8 alone and brings nothing in. Assumes nothing.
 use mathlib.Core.Path.{_≡_}
+use mathlib.Core.Bool.{false}
 use mathlib.Core.List.{List, []}
 use Prim.Native.Nat.{ℕ, zero, suc, _<_}
 use lib.IntN.{ℤ}
-use Rattle.lists.specs.Histories.{Each}
 use Rattle.refusals.specs.Refusals.{first, bufferTest}
 use Rattle.result_record.specs.ResultRecord.{resultBytes, resultTest}
 use Rattle.workspace.specs.Workspace.{workspaceTest, R}
 use Rattle.engine.specs.Fetch.{fetchBy}
-use Rattle.desk.specs.Desk.{sectorCount, unloadedJob, jobAt, heardAt}
-use Rattle.desk_laws.specs.Calls.{Lent, Call, load, run, fetch, heard, begin, setShares, Hub, new, lentWords, Answer, bare, answer, next, after, Accepted, own, kind}
-
-abbrev pub IsLoad : Call → Type 0
-IsLoad (load i rec lent) = Unit {0}
-IsLoad (run i request lent) = ⊥
-IsLoad (fetch i buffer lent) = ⊥
-IsLoad (heard i) = ⊥
-IsLoad begin = ⊥
-IsLoad (setShares shares eight) = ⊥
-
--- no Load of the sector is accepted
-abbrev pub NoLoad : ℕ → Hub → Call → Type 0
-NoLoad i h c = kind i c ≡ own → IsLoad c → Accepted h c → ⊥
-
-unfoldable pub EachNoLoad : ℕ → Hub → List Call → Type 0
-EachNoLoad i h calls = Each next (NoLoad i) h calls
+use Rattle.desk.specs.Desk.{sectorCount, unloadedJob, jobAt, heardAt, waitsAt}
+use Rattle.desk_laws.specs.Calls.{Lent, Call, run, fetch, Hub, new, lentWords, Answer, bare, answer, after, EachNoLoad}
 
 -- a Run that makes nothing, by its number
 abbrev pub ranNothing : ℕ → List ℤ → Answer
@@ -35,6 +20,7 @@ ranNothing (suc n) l = bare (suc n) [] l
 pub record Unloaded (i : ℕ) (h : Hub) : Type 0 where
   pub job : jobAt (h .desk) i ≡ unloadedJob
   pub heard : heardAt (h .desk) i ≡ 0
+  pub waits : waitsAt (h .desk) i ≡ false
   -- its Run is refused by 3 alone, whatever the request and whatever its count, and makes nothing
   pub run : (request : ℕ) (lent : Lent) → (let l = lentWords (h .area i) lent in answer h (run i request lent) ≡ ranNothing (workspaceTest l) l)
   -- its Fetch is refused by 3, 7 or 8 alone, and else writes the record of what the area holds

@@ -1,13 +1,13 @@
 // The desk for eight sectors, for C and Rust hosts: each call hands on the library's reply.
 use desk::Desk;
 use desk::DeskReply;
+use desk::hand_in::DeskLoadReply;
 use desk::heard::DeskHeardReply;
-use desk::load::DeskLoadReply;
 use desk::run::DeskRunReply;
 use desk::shares::Shares;
 ghost use mathlib.Core.Path.{_≡_};
 ghost use Rattle.desk.specs.Desk.{newDesk, beginOf};
-ghost use Rattle.desk.specs.Load.{DeskLoadOutcome, deskLoadOf};
+ghost use Rattle.desk.specs.HandIn.{HandInOutcome, handInOf};
 ghost use Rattle.desk.specs.Run.{DeskRunOutcome, deskRunOf};
 ghost use Rattle.desk.specs.Fetch.{DeskFetchOutcome, deskFetchOf};
 ghost use Rattle.desk.specs.Heard.{deskHeardOf};
@@ -28,15 +28,15 @@ pub extern "C" fn hubqr_desk_begin(desk: Desk) -> DeskReply
 }
 
 #[no_mangle]
-pub extern "C" fn hubqr_desk_load(
+pub extern "C" fn hubqr_desk_hand_in(
     desk: Desk,
     sector: u32,
     bytes: &[u8],
     area: &mut [i32],
 ) -> DeskLoadReply
-    ensures { λ r. ⌜ record { reply = r; area = now (area .exit) } ≡ deskLoadOf desk sector (now (bytes .entry)) (now (area .entry)) ⌝ }
+    ensures { λ r. ⌜ record { reply = r; area = now (area .exit) } ≡ handInOf desk sector (now (bytes .entry)) (now (area .entry)) ⌝ }
 {
-    desk::load::load(desk, sector, bytes, area)
+    desk::hand_in::hand_in(desk, sector, bytes, area)
 }
 
 #[no_mangle]
@@ -55,10 +55,10 @@ pub extern "C" fn hubqr_desk_run(
 pub extern "C" fn hubqr_desk_fetch(
     desk: Desk,
     sector: u32,
-    area: &[i32],
+    area: &mut [i32],
     buffer: &mut [u8],
 ) -> DeskReply
-    ensures { λ r. ⌜ record { reply = r; buffer = now (buffer .exit) } ≡ deskFetchOf desk sector (now (area .entry)) (now (buffer .entry)) ⌝ }
+    ensures { λ r. ⌜ record { reply = r; area = now (area .exit); buffer = now (buffer .exit) } ≡ deskFetchOf desk sector (now (area .entry)) (now (buffer .entry)) ⌝ }
 {
     desk::fetch::fetch(desk, sector, area, buffer)
 }

@@ -3,7 +3,7 @@
 
 uint8_t number;
 
-void finish(struct hubqr_desk *desk, const int32_t *area, uint8_t *buffer)
+void finish(struct hubqr_desk *desk, int32_t *area, uint8_t *buffer)
 {
 #ifdef RIGHT
     number =

@@ -9,7 +9,7 @@
 
 static uint8_t buffer[BYTES];
 
-uint8_t finish(struct hubqr_desk *desk, const int32_t *area)
+uint8_t finish(struct hubqr_desk *desk, int32_t *area)
 {
     return hubqr_desk_fetch_at(desk, 3, area, HUBQR_AREA_WORDS, buffer, HUBQR_RESULT_RECORD_BYTES);
 }

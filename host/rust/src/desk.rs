@@ -2,14 +2,33 @@
 //!
 //! Each `unsafe` block rests on what `calls.rs` says of slices; a clone of the desk is handed over, and
 //! the next desk is answered by value.
-use crate::calls::{accepted, Clamps, Loaded, Progress};
-use crate::ffi::{self, Desk, Shares};
+use crate::calls::{accepted, Clamps, Progress};
+use crate::ffi::{self, Desk, Job, Shares};
 use crate::refusal::Refusal;
 use crate::SECTORS;
+
+/// What an accepted [`Desk::hand_in`] answers. Whether the matrix waits is in [`Desk::waits`].
+#[derive(Clone, Copy, Debug, PartialEq, Eq)]
+#[non_exhaustive]
+pub struct HandedIn {
+    /// The sector's job: (0, 0) if the matrix was loaded; if it waits, the job as it stands, which is
+    /// that of the matrix before.
+    pub job: Job,
+    /// The sector's heard byte: if the matrix was loaded, its own, which is never 0; if it waits, the
+    /// heard byte as it stands.
+    pub heard: u8,
+}
 
 /// Each call but [`new`](Desk::new), [`begin`](Desk::begin) and [`set_shares`](Desk::set_shares) is for
 /// one sector, 0 to 7, and refuses any other with [`Refusal::NoSuchSector`] before it tests anything
 /// else. A refused call changes neither the desk nor what it was lent.
+///
+/// A sector may hand in its next matrix while the job of the one before is unfinished: it **waits** in
+/// the desk, one for each sector, and a later one takes its place. [`run`](Desk::run) and
+/// [`fetch`](Desk::fetch) go on with the matrix before. A matrix is **loaded** when the sector's area is
+/// filled from it and its job becomes (0, 0): by the hand-in itself if the job is finished and none
+/// waits, and otherwise by the next Fetch that succeeds, which **brings it in** once it has written the
+/// result of the matrix before.
 ///
 /// For a desk that came from `new` and is changed by these calls alone, whose sectors each have an
 /// area that is lent to all calls for that sector and that nothing else writes to, not even a call for
@@ -18,17 +37,28 @@ use crate::SECTORS;
 /// - a sector's area, job and heard byte are as if it had run alone with the turns granted to it;
 /// - what is granted to a sector depends on its own shares, job and requests and on when rounds begin,
 ///   whatever the other seven do;
-/// - a sector that was loaded, and is not loaded again, that has an unchanged share s above 0 and
-///   requests s or more in every round begun after the load, with an area of at least 512 words,
-///   finishes within 120 divided by s such rounds, rounded up;
+/// - a sector that was loaded, and is not loaded again, by a hand-in or by a Fetch that brings one in,
+///   that has an unchanged share s above 0 and requests s or more in every round begun after the load,
+///   with an area of at least 512 words, finishes within 120 divided by s such rounds, rounded up;
 /// - what a sector was granted in a round and what it has left make the share that it had when the
 ///   round began, and the turns granted in a round to all are never more than
-///   [`ROUND_TURNS`](crate::ROUND_TURNS);
-/// - each result fetched from a sector that was loaded has the bounds of the crate's first page,
-///   against the matrix last loaded there.
+///   [`ROUND_TURNS`](crate::ROUND_TURNS).
+///
+/// For a desk that came from `new` and is changed by these calls alone, whatever areas they were lent:
+///
+/// - a sector's heard byte changes only with a load;
+/// - what waits for a sector passed the tests of [`load`](crate::load), and is the record of the
+///   sector's last accepted hand-in; where none waits, the sector's job was loaded from that one.
+///
+/// If besides each of a sector's accepted calls since it was loaded was lent the area that the load
+/// filled, and nothing else writes to it:
+///
+/// - each result fetched from the sector has the bounds of the crate's first page, against the matrix
+///   that its job was loaded from;
+/// - a Fetch that is repeated writes the same bytes until the next load.
 impl Desk {
-    /// A desk at the start of a round. Each sector has a share of 15 turns, all of them left, and none
-    /// is loaded: each has the job (120, 0) and heard byte 0.
+    /// A desk at the start of a round. Each sector has a share of 15 turns, all of them left. None is
+    /// loaded: each has the job (120, 0) and heard byte 0, and no matrix waits.
     ///
     /// ```
     /// use hubqr::{FIRST_SHARE, SECTORS};
@@ -38,6 +68,7 @@ impl Desk {
     /// assert_eq!(desk.left, [FIRST_SHARE; SECTORS]);
     /// assert_eq!(desk.jobs, [hubqr::Job { turn: 120, made: 0 }; SECTORS]);
     /// assert_eq!(desk.heard, [0; SECTORS]);
+    /// assert_eq!(desk.waits, [0; SECTORS]);
     /// ```
     pub fn new() -> Desk {
         // SAFETY: the call takes nothing.
@@ -81,34 +112,49 @@ impl Desk {
         Ok(())
     }
 
-    /// Fills the area of a sector from a matrix record, as [`load`](crate::load) does. The sector's
-    /// job becomes (0, 0), even if it was unfinished, and its heard byte that of the record. What it
-    /// has left in the round neither pays nor is refilled.
+    /// Hands in a matrix record for a sector. It is tested as [`load`](crate::load) tests it, and then:
+    ///
+    /// - If the sector's job is finished and no matrix waits, the area is filled from it, as `load`
+    ///   does. The job becomes (0, 0), and the heard byte that of the record. A result in the area that
+    ///   was not fetched is lost.
+    /// - Otherwise it waits in the desk, in the place of one that waited. The reply has the sector's job
+    ///   and heard byte as they stand, and the area is left as it is. It is loaded after the next
+    ///   [`fetch`](Desk::fetch) that succeeds, into the area that this one is lent.
+    ///
+    /// What the sector has left in the round neither pays nor is refilled. After a refusal, a matrix
+    /// that waits goes on waiting.
     ///
     /// Refuses, in this order, with [`Refusal::NoSuchSector`], [`Refusal::WrongKind`],
-    /// [`Refusal::WrongLength`], [`Refusal::AreaTooShort`], [`Refusal::NoneHeard`].
+    /// [`Refusal::WrongLength`], [`Refusal::AreaTooShort`], [`Refusal::NoneHeard`]. The area is tested
+    /// also where the matrix only waits.
     ///
     /// ```
     /// # let record = [1; hubqr::MATRIX_RECORD_BYTES];
+    /// # let next = [1; hubqr::MATRIX_RECORD_BYTES];
     /// # let mut area = [0; hubqr::AREA_WORDS];
     /// let mut desk = hubqr::Desk::new();
-    /// let loaded = desk.load(7, &record, &mut area)?;
-    /// assert_eq!(loaded.job, hubqr::Job { turn: 0, made: 0 });
-    /// assert_eq!(loaded.heard, 0xff);
+    /// let handed_in = desk.hand_in(7, &record, &mut area)?; // loaded: the sector has nothing to do
+    /// assert_eq!(handed_in.job, hubqr::Job { turn: 0, made: 0 });
+    /// assert_eq!((handed_in.heard, desk.waits[7]), (0xff, 0));
     ///
-    /// let refused = desk.load(8, &record, &mut area);
+    /// desk.run(7, 10, &mut area)?;
+    /// let handed_in = desk.hand_in(7, &next, &mut area)?; // waits: the job is unfinished
+    /// assert_eq!(handed_in.job.turn, 10);
+    /// assert_eq!(desk.waits[7], 1);
+    ///
+    /// let refused = desk.hand_in(8, &record, &mut area);
     /// assert_eq!(refused, Err(hubqr::Refusal::NoSuchSector));
     /// # Ok::<(), hubqr::Refusal>(())
     /// ```
-    pub fn load(
+    pub fn hand_in(
         &mut self,
         sector: u32,
         record: &[u8],
         area: &mut [i32],
-    ) -> Result<Loaded, Refusal> {
+    ) -> Result<HandedIn, Refusal> {
         // SAFETY: as said at the top of this file.
         let reply = unsafe {
-            ffi::hubqr_desk_load(
+            ffi::hubqr_desk_hand_in(
                 self.clone(),
                 sector,
                 record.as_ptr(),
@@ -119,7 +165,7 @@ impl Desk {
         };
         accepted(reply.number)?;
         *self = reply.desk;
-        Ok(Loaded {
+        Ok(HandedIn {
             job: reply.job,
             heard: reply.heard,
         })
@@ -141,8 +187,8 @@ impl Desk {
     /// # let mut area = [0; hubqr::AREA_WORDS];
     /// # let mut other = [0; hubqr::AREA_WORDS];
     /// let mut desk = hubqr::Desk::new();
-    /// desk.load(0, &record, &mut area)?;
-    /// desk.load(1, &record, &mut other)?;
+    /// desk.hand_in(0, &record, &mut area)?;
+    /// desk.hand_in(1, &record, &mut other)?;
     /// assert_eq!(desk.run(0, 10, &mut area)?.count, 10);
     /// assert_eq!(desk.run(0, 10, &mut area)?.count, 5); // all that the sector has left
     /// assert_eq!(desk.run(0, 10, &mut area), Err(hubqr::Refusal::CountUsedUp));
@@ -178,34 +224,48 @@ impl Desk {
     /// [`fetch`](crate::fetch) does. For a sector that was never loaded, the record has the words that
     /// the area has.
     ///
+    /// If a matrix waits for the sector, it is then brought in: the area is filled from it, the job
+    /// becomes (0, 0), the heard byte that of its record, and none waits. What the sector has left in
+    /// the round neither pays nor is refilled. If none waits, desk and area stay as they are, and the
+    /// same may be fetched again.
+    ///
     /// Refuses, in this order, with [`Refusal::NoSuchSector`], [`Refusal::AreaTooShort`],
     /// [`Refusal::NoSuchJob`], [`Refusal::Unfinished`], [`Refusal::BufferTooShort`],
     /// [`Refusal::NotTriangular`]. The last never comes for a sector that was loaded, if the area that
-    /// was loaded was lent to each of its calls since and nothing else has written to it.
+    /// was loaded was lent to each of its calls since and nothing else has written to it. A refused
+    /// Fetch brings nothing in.
     ///
     /// ```
     /// # let record = [1; hubqr::MATRIX_RECORD_BYTES];
+    /// # let next = [1; hubqr::MATRIX_RECORD_BYTES];
     /// # let mut area = [0; hubqr::AREA_WORDS];
     /// # let mut result = [0; hubqr::RESULT_RECORD_BYTES];
     /// let mut desk = hubqr::Desk::new();
-    /// desk.load(3, &record, &mut area)?;
-    /// let early = desk.fetch(3, &area, &mut result);
+    /// desk.hand_in(3, &record, &mut area)?;
+    /// desk.hand_in(3, &next, &mut area)?;
+    /// let early = desk.fetch(3, &mut area, &mut result);
     /// assert_eq!(early, Err(hubqr::Refusal::Unfinished));
     ///
     /// desk.set_shares([0, 0, 0, 120, 0, 0, 0, 0])?;
     /// desk.begin()?;
     /// desk.run(3, 120, &mut area)?;
-    /// desk.fetch(3, &area, &mut result)?;
+    /// desk.fetch(3, &mut area, &mut result)?; // the result of `record`, and `next` is brought in
     /// assert_eq!(result[0], hubqr::KIND_RESULT);
+    /// assert_eq!((desk.jobs[3].turn, desk.waits[3]), (0, 0));
     /// # Ok::<(), hubqr::Refusal>(())
     /// ```
-    pub fn fetch(&mut self, sector: u32, area: &[i32], buffer: &mut [u8]) -> Result<(), Refusal> {
+    pub fn fetch(
+        &mut self,
+        sector: u32,
+        area: &mut [i32],
+        buffer: &mut [u8],
+    ) -> Result<(), Refusal> {
         // SAFETY: as said at the top of this file.
         let reply = unsafe {
             ffi::hubqr_desk_fetch(
                 self.clone(),
                 sector,
-                area.as_ptr(),
+                area.as_mut_ptr(),
                 area.len(),
                 buffer.as_mut_ptr(),
                 buffer.len(),
@@ -216,7 +276,8 @@ impl Desk {
         Ok(())
     }
 
-    /// The desk's heard byte of a sector: that of the matrix last loaded, 0 if none was.
+    /// The desk's heard byte of a sector: that of the matrix last loaded, 0 if none was. One that waits
+    /// is not loaded.
     ///
     /// Refuses with [`Refusal::NoSuchSector`].
     pub fn heard(&self, sector: u32) -> Result<u8, Refusal> {

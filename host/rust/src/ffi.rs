@@ -127,28 +127,41 @@ pub struct WeightsReply {
     pub weights: [Weight; 8],
 }
 
-/// How far the work for the eight sectors of a hub is, their shares, and what each has left in the
-/// round: 104 plain bytes that the caller keeps from call to call. Its methods are the calls.
+/// How far the work for the eight sectors of a hub is, their shares, what each has left in the round,
+/// and the matrices that wait: 2,168 plain bytes that the caller keeps from call to call. Its methods
+/// are the calls.
 ///
 /// Each call needs the desk that the last one left. An older desk, such as a clone that was kept, is
-/// not noticed: its counts grant turns a second time, and its jobs no longer fit their areas.
+/// not noticed: its counts grant turns a second time, its jobs no longer fit their areas, and a matrix
+/// that was loaded waits again.
 ///
 /// A desk that a caller has made up is taken as it is by every call: shares and what is left may be up
 /// to 65,535 each. A job that [`run`](crate::run) would refuse with
-/// [`Refusal::NoSuchJob`](crate::Refusal::NoSuchJob) is refused so here, until its sector is loaded
-/// again. What is said of a sector that was loaded, or never loaded, and of all shares together is for
-/// desks that came from [`new`](Desk::new) and are changed by the calls alone.
+/// [`Refusal::NoSuchJob`](crate::Refusal::NoSuchJob) is refused so here. One with a turn number above
+/// 120 counts as finished for a hand-in, so that its sector is loaded again, unless a matrix waits.
+/// Behind one such as (5, 6) every hand-in waits, until the caller mends the desk. A matrix that waits
+/// is not tested again when it is brought in: with `waits` above 0, whatever 257 bytes `records` has
+/// are loaded. The first of them, which is the kind byte of a record, counts for nothing, and the heard
+/// byte may be 0. What is said of a sector that was loaded, or never loaded, of what waits and of all
+/// shares together is for desks that came from [`new`](Desk::new) and are changed by the calls alone.
 #[repr(C)]
 #[derive(Clone, Debug, PartialEq, Eq)]
 pub struct Desk {
     /// The job of sector k at place k. It is (120, 0) until the sector is loaded for the first time.
     pub jobs: [Job; 8],
-    /// The heard byte of sector k at place k. It is 0 until the sector is loaded for the first time.
+    /// The heard byte of sector k at place k: that of the matrix that its job was loaded from. It is 0
+    /// until the sector is loaded for the first time.
     pub heard: [u8; 8],
     /// The share of sector k at place k: the turns that it has left when a round begins.
     pub shares: [u16; 8],
     /// The turns that sector k has left in the round, at place k.
     pub left: [u16; 8],
+    /// Whether a matrix waits for sector k, at place k: 0 if none does, and 1 if one does. Every value
+    /// above 1 means the same as 1, and no call answers one that it was not handed.
+    pub waits: [u8; 8],
+    /// The matrix record that waits for sector k, from place 257 * k on. Where none waits, the bytes
+    /// mean nothing: those of a matrix that was brought in stay.
+    pub records: [u8; 2056],
 }
 
 /// The shares of all sectors, as the call that sets them takes them.
@@ -169,7 +182,7 @@ pub struct DeskReply {
     pub number: u8,
 }
 
-/// What a sector's Load answers.
+/// What handing in a sector's matrix answers.
 #[repr(C)]
 #[derive(Clone, Debug, PartialEq, Eq)]
 pub struct DeskLoadReply {
@@ -177,9 +190,11 @@ pub struct DeskLoadReply {
     pub desk: Desk,
     /// 0, or the refusal's number.
     pub number: u8,
-    /// The sector's heard byte.
+    /// The sector's heard byte: that of the record if it was loaded, and the one that the sector has if
+    /// the record waits; of a refused call, 0.
     pub heard: u8,
-    /// The sector's job: (0, 0); of a refused call, (0, 0) too, and the desk has the sector's job.
+    /// The sector's job: (0, 0) if the record was loaded, and the one that the sector has if the record
+    /// waits; of a refused call, (0, 0), and the desk has the sector's job.
     pub job: Job,
 }
 
@@ -276,8 +291,9 @@ extern "C" {
     /// Sets the shares of all sectors, which count from the next round on.
     pub fn hubqr_desk_set_shares(desk: Desk, shares: Shares) -> DeskReply;
 
-    /// Fills a sector's area from a matrix record.
-    pub fn hubqr_desk_load(
+    /// Hands in a sector's matrix: it is loaded, or waits in the desk if the sector's job is unfinished or
+    /// one waits already.
+    pub fn hubqr_desk_hand_in(
         desk: Desk,
         sector: u32,
         record: *const u8,
@@ -296,11 +312,12 @@ extern "C" {
         area_len: usize,
     ) -> DeskRunReply;
 
-    /// Writes the result record of a sector's finished area.
+    /// Writes the result record of a sector's finished area, and then loads the matrix that waits, if one
+    /// does.
     pub fn hubqr_desk_fetch(
         desk: Desk,
         sector: u32,
-        area: *const i32,
+        area: *mut i32,
         area_len: usize,
         buffer: *mut u8,
         buffer_len: usize,

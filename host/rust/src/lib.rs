@@ -49,9 +49,12 @@
 //!
 //! The **desk** serves a hub's eight **sectors**, each with its own job, heard byte and area, by
 //! **rounds**. When a round begins, each sector has the turns of its own **share**, which no other
-//! sector can use; the shares of all are at most 120 together. [`Desk`] holds the jobs, the heard
-//! bytes, the shares and what each sector has left in the round; its methods are the calls; all but
-//! `new`, `begin` and `set_shares` are for one sector.
+//! sector can use; the shares of all are at most 120 together. A sector may hand in its next matrix
+//! while its job is unfinished: it **waits** until the result is fetched. Handed in over a finished
+//! result that was not fetched, with none waiting, it is loaded at once, and that result is lost.
+//! [`Desk`] holds the jobs, the heard bytes, the shares, what each sector has left in the round and the
+//! matrices that wait; its methods are the calls; all but `new`, `begin` and `set_shares` are for one
+//! sector.
 //!
 //! Areas and buffers may be longer than needed: what lies behind is not touched. A refused call
 //! changes nothing that it was lent.
@@ -114,7 +117,7 @@
 //! let mut desk = hubqr::Desk::new();
 //! desk.set_shares([80, 40, 0, 0, 0, 0, 0, 0])?; // two sectors, and one is busy
 //! for (sector, area) in (0..).zip(&mut areas) {
-//!     desk.load(sector, &records[sector as usize], area)?;
+//!     desk.hand_in(sector, &records[sector as usize], area)?;
 //! }
 //! while desk.jobs.iter().any(|job| !job.is_finished()) {
 //!     desk.begin()?; // each sector has the turns of its share
@@ -124,8 +127,8 @@
 //!     }
 //! }
 //! let mut result = [0; hubqr::RESULT_RECORD_BYTES];
-//! for (sector, area) in (0..).zip(&areas) {
-//!     desk.fetch(sector, area, &mut result)?;
+//! for (sector, area) in (0..).zip(&mut areas) {
+//!     desk.fetch(sector, area, &mut result)?; // would bring in a matrix that waits
 //!     assert_eq!(desk.heard(sector)?, 0xff);
 //! }
 //! # Ok::<(), hubqr::Refusal>(())
@@ -151,6 +154,8 @@ pub use calls::{fetch, load, read, run, version, whole};
 pub use calls::{Clamps, Factored, Loaded, Progress, Restored};
 #[cfg(feature = "archive")]
 pub use covariance::Covariance;
+#[cfg(feature = "archive")]
+pub use desk::HandedIn;
 #[cfg(feature = "archive")]
 pub use ffi::{Desk, Job, Sample, Weight};
 pub use refusal::{Refusal, UnknownNumber};

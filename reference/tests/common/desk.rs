@@ -1,12 +1,12 @@
 //! The calls of the desk, made on the engine and on the reference.
 
 mod call;
+mod seen;
+mod source;
 
 pub use call::{Call, Lent};
+pub use seen::Seen;
 
-use std::collections::BTreeMap;
-
-use reference::accuracy::Errors;
 use reference::area::{WorkArea, AREA_WORDS};
 use reference::desk::{self, Desk, DeskReply, Seat, SECTORS};
 use reference::job::Job;
@@ -16,68 +16,39 @@ use reference::records::RESULT_RECORD;
 use super::twin::Twin;
 use super::worked::Loaded;
 use super::{engine, Case, SPARE};
-
-/// What the calls of a test came to.
-#[derive(Debug, Default)]
-pub struct Seen {
-    /// How many of each call were accepted, and how many made.
-    pub calls: BTreeMap<&'static str, (u64, u64)>,
-    /// How often each number was answered.
-    pub refusals: BTreeMap<u8, u64>,
-    /// The turns granted to all sectors.
-    pub granted: u64,
-    /// The matrices worked to the end, and the largest of their errors.
-    pub worked: u64,
-    pub worst: Errors,
-}
-
-impl Seen {
-    pub fn print(&self, test: &str) {
-        let calls = self.calls.iter();
-        let calls: Vec<String> = calls
-            .map(|(name, (accepted, made))| format!("{accepted} of {made} {name}"))
-            .collect();
-        let refusals = self.refusals.iter();
-        let refusals: String = refusals
-            .map(|(number, count)| format!(", {count} refused with {number}"))
-            .collect();
-        println!("\n{test}: accepted {}{refusals}", calls.join(", "));
-        if self.worked > 0 {
-            let Seen {
-                granted, worked, ..
-            } = self;
-            let [product, rows, columns] = self.worst.shares();
-            println!(
-                "{granted} turns granted, {worked} matrices worked to the end, the largest error \
-                 as a share of 2^44: Q times R {product:.6}, rows of Q {rows:.6}, columns of R \
-                 {columns:.6}"
-            );
-        }
-    }
-
-    /// Fails the test unless these are the numbers that were answered.
-    pub fn assert_numbers(&self, numbers: &[u8]) {
-        let seen: Vec<u8> = self.refusals.keys().copied().collect();
-        assert_eq!(seen, numbers, "the numbers answered, and those due");
-    }
-
-    fn count(&mut self, call: &Call, reply: &DeskReply) {
-        let (accepted, made) = self.calls.entry(call.name()).or_default();
-        *made += 1;
-        if reply.number == 0 {
-            *accepted += 1;
-            self.granted += u64::from(reply.count);
-        } else {
-            *self.refusals.entry(reply.number).or_default() += 1;
-        }
-    }
-}
+use source::{Fetched, Source, Sources};
 
 /// An area, which belongs to one sector or is lent to several.
 struct Area {
     words: Twin<i32>,
     /// The matrix that it was loaded with, while each accepted Run since was in step.
     loaded: Option<Loaded>,
+}
+
+/// Whether a call writes to the area that it is lent: it fills it, or makes turns.
+fn writes(desk: &Desk, call: &Call, reply: &DeskReply) -> bool {
+    reply.number == 0 && (reply.count > 0 || call.loads(desk).is_some())
+}
+
+/// What an accepted hand-in or Fetch makes of a seat.
+fn take_matrix(seat: &mut Seat, call: &Call, loads: Option<&[u8]>) {
+    match (call, loads) {
+        (_, Some(record)) => {
+            (seat.job, seat.heard) = (Job::new(0, 0), heard(record));
+            seat.waits = 0;
+        }
+        (Call::HandIn { record, .. }, None) => {
+            seat.waits = 1;
+            seat.record.copy_from_slice(record);
+        }
+        _ => {}
+    }
+}
+
+/// Antenna k is heard when the real part of element (k, k) is above 16.
+fn heard(record: &[u8]) -> u8 {
+    let part = |k: usize| i16::from_be_bytes([record[1 + 36 * k], record[2 + 36 * k]]);
+    (0..8).map(|k| u8::from(part(k) > 16) << k).sum()
 }
 
 /// The same desk on both sides, each with its own areas and its own buffer. Every call is made on
@@ -87,6 +58,8 @@ pub struct BothDesk<'a> {
     desk: Desk,
     areas: Vec<Area>,
     buffer: Twin<u8>,
+    /// What the jobs of the desk were loaded from.
+    sources: Sources,
     /// The last call, and the desk that it was handed.
     last: Option<(Desk, Call, Lent)>,
     seen: &'a mut Seen,
@@ -106,6 +79,7 @@ impl<'a> BothDesk<'a> {
             desk: engine::desk_new(),
             areas,
             buffer: Twin::new(RESULT_RECORD + SPARE, || random.byte()),
+            sources: Sources::default(),
             last: None,
             seen,
         };
@@ -118,15 +92,17 @@ impl<'a> BothDesk<'a> {
         &self.desk
     }
 
-    /// Goes on with any desk.
-    pub fn hand_in(&mut self, desk: Desk) {
+    /// Goes on with any desk. Nobody knows what its jobs were loaded from.
+    pub fn go_on_with(&mut self, desk: Desk) {
         self.desk = desk;
+        self.sources = Sources::default();
     }
 
-    /// Puts words into an area of both sides.
+    /// Puts words into an area of both sides, which no sector has worked on.
     pub fn fill_area(&mut self, area: usize, words: &[i32; AREA_WORDS]) {
         self.areas[area].words.fill(words);
         self.areas[area].loaded = None;
+        self.sources.write(None, area);
     }
 
     /// All words of an area of the engine, lent or not.
@@ -145,16 +121,39 @@ impl<'a> BothDesk<'a> {
         &self.buffer.contents()[..RESULT_RECORD]
     }
 
+    /// Fails the test unless the result that was fetched last is what the engine's Whole makes of a
+    /// record.
+    pub fn require_result_of(&self, record: &[u8]) {
+        let right = self.fetched() == source::whole(record);
+        self.require(right, "the result of another matrix was fetched");
+    }
+
     /// Makes a call with the desk that was answered last, and keeps the one that it answers.
     pub fn call(&mut self, call: &Call, lent: Lent) -> DeskReply {
         let desk = self.desk;
-        let reply = self.call_handed(&desk, call, lent);
+        let reply = self.make(&desk, call, lent);
+        match (reply.number, call.sector()) {
+            (0, Some(sector)) => self.follow_source(sector as usize, call, lent.area, &reply),
+            (8, Some(sector)) => {
+                let in_step = self.sources.is_in_step(sector as usize, lent.area);
+                self.require(!in_step, "a result in step was refused");
+            }
+            _ => {}
+        }
         self.desk = reply.desk;
         reply
     }
 
     /// Makes a call with any desk, and keeps the one that was there.
     pub fn call_handed(&mut self, desk: &Desk, call: &Call, lent: Lent) -> DeskReply {
+        let reply = self.make(desk, call, lent);
+        if writes(desk, call, &reply) {
+            self.sources.write(None, lent.area);
+        }
+        reply
+    }
+
+    fn make(&mut self, desk: &Desk, call: &Call, lent: Lent) -> DeskReply {
         self.last = Some((*desk, call.clone(), lent));
         self.areas[lent.area].words.lend(lent.words);
         self.buffer.lend(lent.bytes);
@@ -162,18 +161,21 @@ impl<'a> BothDesk<'a> {
         let reply = self.on_the_engine(desk, call, lent);
         let reference = self.on_the_reference(desk, call, lent);
         self.compare(reply, reference);
+        if !writes(desk, call, &reply) {
+            let same = self.words(lent.area) == before.0;
+            self.require(same, "a call changed an area that it was only lent");
+        }
         if reply.number == 0 {
             self.follow(desk, call, lent, &reply);
         } else {
-            let same = self.words(lent.area) == before.0 && self.fetched() == before.1;
-            self.require(same, "a refused call changed something");
+            self.require(self.fetched() == before.1, "a refused call wrote a result");
             let nothing_else = DeskReply {
                 number: reply.number,
                 ..DeskReply::from(*desk)
             };
             self.require(reply == nothing_else, "a refused call answered more");
         }
-        self.seen.count(call, &reply);
+        self.seen.count(desk, call, &reply);
         reply
     }
 
@@ -182,10 +184,10 @@ impl<'a> BothDesk<'a> {
         match call {
             Call::Begin => engine::desk_begin(desk),
             Call::SetShares { shares } => engine::desk_set_shares(desk, *shares),
-            Call::Load { sector, record } => {
+            Call::HandIn { sector, record } => {
                 let mut handed = record.clone();
-                let reply = engine::desk_load(desk, *sector, &mut handed, area.engine());
-                self.require(handed == *record, "Load changed the record");
+                let reply = engine::desk_hand_in(desk, *sector, &mut handed, area.engine());
+                self.require(handed == *record, "a hand-in changed the record");
                 reply
             }
             Call::Run { sector, request } => {
@@ -203,7 +205,9 @@ impl<'a> BothDesk<'a> {
         match call {
             Call::Begin => desk::begin(desk),
             Call::SetShares { shares } => desk::set_shares(desk, shares),
-            Call::Load { sector, record } => desk::load(desk, *sector, record, area.reference()),
+            Call::HandIn { sector, record } => {
+                desk::hand_in(desk, *sector, record, area.reference())
+            }
             Call::Run { sector, request } => desk::run(desk, *sector, *request, area.reference()),
             Call::Fetch { sector } => {
                 desk::fetch(desk, *sector, area.reference(), buffer.reference())
@@ -229,23 +233,13 @@ impl<'a> BothDesk<'a> {
 
     /// What holds of an accepted call: which seats of the desk it changes, and how.
     fn follow(&mut self, handed: &Desk, call: &Call, lent: Lent, reply: &DeskReply) {
-        let mut due = *handed;
+        let (mut due, loads) = (*handed, call.loads(handed));
         match call {
             Call::Begin => due.seats.iter_mut().for_each(|seat| seat.left = seat.share),
             Call::SetShares { shares } => {
                 (0..SECTORS).for_each(|k| due.seats[k].share = shares[k]);
                 let total: u64 = shares.iter().map(|share| u64::from(*share)).sum();
                 self.require(total <= 120, "shares above 120 in total were set");
-            }
-            Call::Load { sector, record } => {
-                let (job, heard) = (Job::new(0, 0), reply.heard);
-                let seat = &mut due.seats[*sector as usize];
-                *seat = Seat {
-                    job,
-                    heard,
-                    ..*seat
-                };
-                self.areas[lent.area].loaded = Some(Loaded::new(record));
             }
             Call::Run { sector, request } => {
                 let seat = &mut due.seats[*sector as usize];
@@ -255,9 +249,44 @@ impl<'a> BothDesk<'a> {
                 }
                 (seat.job, seat.left) = (reply.job, seat.left - granted);
             }
-            Call::Fetch { .. } | Call::Heard { .. } => {}
+            Call::HandIn { sector, .. } | Call::Fetch { sector } => {
+                let seat = &mut due.seats[*sector as usize];
+                take_matrix(seat, call, loads.as_deref());
+                let stands = (reply.job, reply.heard) == (seat.job, seat.heard);
+                let handed_in = matches!(call, Call::HandIn { .. });
+                self.require(stands || !handed_in, "another job or heard byte");
+            }
+            Call::Heard { .. } => {}
+        }
+        if let Some(record) = loads {
+            self.areas[lent.area].loaded = Loaded::accepted(&record);
         }
         self.require(reply.desk == due, "another desk was answered");
+    }
+
+    /// Holds what a sector fetches to the matrix that its job was loaded from, and keeps account of
+    /// what loads it and of who writes where. The desk is still the one that the call was handed.
+    fn follow_source(&mut self, sector: usize, call: &Call, area: usize, reply: &DeskReply) {
+        let fetches = matches!(call, Call::Fetch { .. });
+        let bytes = &self.buffer.contents()[..RESULT_RECORD];
+        let fetched = fetches.then(|| self.sources.fetch(sector, area, bytes));
+        match fetched.flatten() {
+            Some(Ok((fetched, matrix))) => {
+                let result = source::work_area(bytes);
+                let errors = matrix.require_worked(&result, || self.named());
+                self.seen.worst = self.seen.worst.max(errors);
+                self.seen.matrices.count_fetched(fetched);
+            }
+            Some(Err(otherwise)) => self.require(false, otherwise),
+            None => {}
+        }
+        if writes(&self.desk, call, reply) {
+            self.sources.write(Some(sector), area);
+        }
+        if let Some(record) = call.loads(&self.desk) {
+            let source = Source::new(&record, area, fetches);
+            self.sources.load(sector, source);
+        }
     }
 
     /// The smallest of the request, what the sector had left and what its job had left is granted,

@@ -7,6 +7,7 @@ use reference::clamps::Clamps;
 use reference::covariance::Snapshot;
 use reference::desk::{Desk, DeskReply, Seat, SECTORS};
 use reference::job::Job;
+use reference::records::MATRIX_RECORD;
 use reference::replies::{FetchReply, LoadReply, ReadReply, RunReply, WholeReply};
 use reference::weights::WeightsReply;
 
@@ -129,22 +130,32 @@ pub fn weights(record: &mut [u8], targets: &Targets) -> WeightsReply {
     }
 }
 
-/// The jobs of all sectors, their heard bytes, their shares, and what they have left.
+/// Of all sectors, the jobs, the heard bytes, the shares, what they have left, whether a matrix waits,
+/// and the room for it.
 fn handed_desk(Desk { seats }: &Desk) -> ffi::Desk {
+    let mut records = [0; SECTORS * MATRIX_RECORD];
+    for (room, seat) in records.chunks_exact_mut(MATRIX_RECORD).zip(seats) {
+        room.copy_from_slice(&seat.record);
+    }
     ffi::Desk {
-        jobs: seats.map(|seat| handed(seat.job)),
-        heard: seats.map(|seat| seat.heard),
-        shares: seats.map(|seat| seat.share),
-        left: seats.map(|seat| seat.left),
+        jobs: seats.each_ref().map(|seat| handed(seat.job)),
+        heard: seats.each_ref().map(|seat| seat.heard),
+        shares: seats.each_ref().map(|seat| seat.share),
+        left: seats.each_ref().map(|seat| seat.left),
+        waits: seats.each_ref().map(|seat| seat.waits),
+        records,
     }
 }
 
 fn answered_desk(desk: ffi::Desk) -> Desk {
+    let room = |k: usize| desk.records[MATRIX_RECORD * k..].first_chunk().copied();
     let seat = |k| Seat {
         job: answered(desk.jobs[k]),
         heard: desk.heard[k],
         share: desk.shares[k],
         left: desk.left[k],
+        waits: desk.waits[k],
+        record: room(k).expect("the desk has room for eight records"),
     };
     Desk {
         seats: std::array::from_fn(seat),
@@ -172,9 +183,9 @@ pub fn desk_set_shares(desk: &Desk, shares: [u16; SECTORS]) -> DeskReply {
     }
 }
 
-pub fn desk_load(desk: &Desk, sector: u32, record: &mut [u8], area: &mut [i32]) -> DeskReply {
+pub fn desk_hand_in(desk: &Desk, sector: u32, record: &mut [u8], area: &mut [i32]) -> DeskReply {
     let reply = unsafe {
-        ffi::hubqr_desk_load(
+        ffi::hubqr_desk_hand_in(
             handed_desk(desk),
             sector,
             record.as_mut_ptr(),

@@ -26,6 +26,12 @@ impl Loaded {
         }
     }
 
+    /// The matrix of a record, if Load accepts it.
+    pub fn accepted(record: &[u8]) -> Option<Self> {
+        let matrix = parse_matrix(record).ok()?;
+        (!matrix.none_heard()).then(|| Loaded::new(record))
+    }
+
     /// The same after a Run that took one job and answered another. None where the Run was handed
     /// another job than the one last answered: nothing is promised then.
     pub fn after(self, job: Job, next: Job) -> Option<Self> {

@@ -1,5 +1,5 @@
 //! A sector without the desk: the engine's own Load, Run and Fetch alone, with the turns that the
-//! desk granted.
+//! desk granted. A matrix that comes early is kept here until the one before is fetched.
 
 use hubqr::Job;
 use reference::desk::{DeskReply, SECTORS};
@@ -14,10 +14,12 @@ pub struct Alone {
     job: Job,
     heard: u8,
     loaded: bool,
+    /// The record that came early.
+    early: Option<Vec<u8>>,
 }
 
 impl Alone {
-    /// Every sector before its first Load, with the words that stand in its area.
+    /// Every sector before it is loaded for the first time, with the words that stand in its area.
     pub fn all(both: &BothDesk) -> [Alone; SECTORS] {
         std::array::from_fn(|sector| Alone {
             sector,
@@ -25,16 +27,22 @@ impl Alone {
             job: Job { turn: 120, made: 0 },
             heard: 0,
             loaded: false,
+            early: None,
         })
     }
 
     /// Makes an accepted call of the sector without the desk.
     pub fn make(&mut self, both: &BothDesk, call: &Call, reply: &DeskReply) {
         match call {
-            Call::Load { record, .. } => {
-                let loaded = hubqr::load(record, &mut self.area);
-                let loaded = loaded.expect("the desk accepted the record");
-                (self.job, self.heard, self.loaded) = (loaded.job, loaded.heard, true);
+            Call::HandIn { record, .. } => {
+                if self.job.is_finished() && self.early.is_none() {
+                    self.load(record);
+                } else {
+                    self.early = Some(record.clone());
+                }
+                let stand = (reply.job.turn, reply.job.made, reply.heard);
+                let same = stand == (self.job.turn, self.job.made, self.heard);
+                both.require(same, "alone, another answer to a hand-in");
             }
             Call::Run { .. } => {
                 let ran = hubqr::run(self.job, reply.count as u16, &mut self.area);
@@ -50,9 +58,18 @@ impl Alone {
                 let fetched = hubqr::fetch(self.job, &self.area, &mut result);
                 let same = fetched.is_ok() && both.fetched() == result;
                 both.require(same, "alone, another result");
+                if let Some(record) = self.early.take() {
+                    self.load(&record);
+                }
             }
             Call::Begin | Call::SetShares { .. } | Call::Heard { .. } => {}
         }
+    }
+
+    fn load(&mut self, record: &[u8]) {
+        let loaded = hubqr::load(record, &mut self.area);
+        let loaded = loaded.expect("the desk accepted the record");
+        (self.job, self.heard, self.loaded) = (loaded.job, loaded.heard, true);
     }
 
     /// What the desk has of the sector is what it would have alone.
@@ -61,6 +78,9 @@ impl Alone {
         let Job { turn, made } = self.job;
         let same = (seat.job.turn, seat.job.made, seat.heard) == (turn, made, self.heard);
         both.require(same, "alone, another job or heard byte");
+        let waits = (seat.waits == 1).then(|| seat.record.to_vec());
+        let same = seat.waits <= 1 && waits == self.early;
+        both.require(same, "alone, another matrix came early");
         let same = both.words(self.sector) == self.area;
         both.require(same, "alone, another area");
     }

@@ -1,5 +1,6 @@
 //! The promise to a loaded sector: where it requests its share s in every round, it is finished
-//! within 120 divided by s rounds, rounded up.
+//! within 120 divided by s rounds, rounded up. The load may be that of a hand-in or of a Fetch, and
+//! matrices that are handed in meanwhile wait.
 
 use reference::random::Random;
 
@@ -11,6 +12,13 @@ use crate::steps::{good_record, Steps};
 /// Histories for each share.
 const HISTORIES: u64 = 8;
 
+/// How a sector is loaded.
+#[derive(Debug, Clone, Copy, PartialEq, Eq)]
+enum By {
+    HandIn,
+    Fetch,
+}
+
 /// A loaded sector with a share.
 struct Sector<'a> {
     both: BothDesk<'a>,
@@ -18,28 +26,76 @@ struct Sector<'a> {
     share: u16,
     /// The rounds begun after the load.
     rounds: u16,
+    /// Whether the job that was loaded has come to its end. It may then be fetched, and the next one
+    /// be loaded.
+    finished: bool,
 }
 
 impl<'a> Sector<'a> {
     /// Gives a sector its share, after so many calls of anybody, and loads it.
-    fn new(case: Case, share: u16, calls: usize, seen: &'a mut Seen, random: &mut Random) -> Self {
+    fn new(case: Case, share: u16, by: By, calls: usize, seen: &'a mut Seen) -> Self {
+        let mut random = case.random();
         let mut sector = Sector {
             both: BothDesk::new(case, seen),
             sector: random.below(8),
             share,
             rounds: 0,
+            finished: false,
         };
         for _ in 0..calls {
-            Steps::OF_ALL.draw(random).make(&mut sector.both);
+            Steps::OF_ALL.draw(&mut random).make(&mut sector.both);
         }
-        let shares = giving(sector.sector, share, random);
-        sector.call(&Call::SetShares { shares }, &[0]);
-        let load = Call::Load {
-            sector: sector.sector as u32,
-            record: good_record(random),
-        };
-        sector.call(&load, &[0]);
+        sector.load(by, &mut random);
         sector
+    }
+
+    /// Sets the share and loads the sector, by a hand-in once there is nothing to do for it, or by the
+    /// Fetch of a matrix before.
+    fn load(&mut self, by: By, random: &mut Random) {
+        if self.waits() {
+            self.work_off(random);
+        }
+        if by == By::Fetch {
+            self.hand_in(random);
+            if !self.waits() {
+                self.hand_in(random);
+            }
+        }
+        self.work(random);
+        let shares = giving(self.sector, self.share, random);
+        self.call(&Call::SetShares { shares }, &[0]);
+        match by {
+            By::HandIn => self.hand_in(random),
+            By::Fetch => self.fetch(),
+        }
+        let loaded = self.turn() == 0 && !self.waits();
+        self.both.require(loaded, "the sector was not loaded");
+    }
+
+    /// Works on until nothing waits.
+    fn work_off(&mut self, random: &mut Random) {
+        self.work(random);
+        self.fetch();
+        self.work(random);
+    }
+
+    /// Works the job to its end, in a round that is the sector's own.
+    fn work(&mut self, random: &mut Random) {
+        let shares = giving(self.sector, 120, random);
+        self.call(&Call::SetShares { shares }, &[0]);
+        self.call(&Call::Begin, &[0]);
+        let (sector, request) = (self.sector as u32, 120);
+        self.call(&Call::Run { sector, request }, &[0]);
+    }
+
+    fn hand_in(&mut self, random: &mut Random) {
+        let (sector, record) = (self.sector as u32, good_record(random));
+        self.call(&Call::HandIn { sector, record }, &[0]);
+    }
+
+    fn fetch(&mut self) {
+        let sector = self.sector as u32;
+        self.call(&Call::Fetch { sector }, &[0]);
     }
 
     /// Makes a call that answers one of these numbers.
@@ -61,24 +117,26 @@ impl<'a> Sector<'a> {
             request: self.share,
         };
         self.call(&run, &[0, 13]);
+        self.finished |= self.turn() == 120;
     }
 
-    /// Other calls of the sector and of others: it is not loaded again, and keeps its share.
+    /// Other calls of the sector and of others, until it is finished. It keeps its share.
     fn do_anything(&mut self, random: &mut Random) {
         for _ in 0..random.below(4) {
-            let mut step = Steps::OF_ALL.draw_within(self.sector, self.share, random);
-            match &mut step.call {
-                Call::Load { sector, record } if *sector as usize == self.sector => {
-                    record.truncate(256);
-                }
-                _ => {}
+            if !self.finished {
+                let step = Steps::OF_ALL.draw_within(self.sector, self.share, random);
+                step.make(&mut self.both);
+                self.finished |= self.turn() == 120;
             }
-            step.make(&mut self.both);
         }
     }
 
     fn turn(&self) -> u16 {
         self.both.desk().seats[self.sector].job.turn as u16
+    }
+
+    fn waits(&self) -> bool {
+        self.both.desk().seats[self.sector].waits != 0
     }
 
     /// The turns that the shares of all its rounds make, and no more than a job has.
@@ -97,10 +155,9 @@ impl<'a> Sector<'a> {
 #[test]
 fn a_sector_takes_as_many_rounds_as_its_share_needs() {
     let mut seen = Seen::default();
-    for share in 1..=120 {
+    for (share, by) in (1..=120).flat_map(|share| [(share, By::HandIn), (share, By::Fetch)]) {
         let case = Case::of_words("rounds of a share", 1171, share.into());
-        let mut random = case.random();
-        let mut sector = Sector::new(case, share, 0, &mut seen, &mut random);
+        let mut sector = Sector::new(case, share, by, 0, &mut seen);
         for _ in 0..sector.promised() {
             sector.both.require(sector.turn() < 120, "too early");
             sector.begin();
@@ -108,33 +165,45 @@ fn a_sector_takes_as_many_rounds_as_its_share_needs() {
             let stands = sector.turn() == sector.due();
             sector.both.require(stands, "another turn number");
         }
-        sector.both.require(sector.turn() == 120, "too late");
+        sector.both.require(sector.finished, "too late");
+        sector.fetch();
     }
     seen.print("Rounds of every share");
-    assert_eq!(seen.worked, 120);
+    assert_eq!((seen.worked, seen.matrices.fetched_brought_in), (360, 120));
 }
 
 /// From any history on, and with any calls of anybody between.
 #[test]
 fn a_sector_that_requests_its_share_finishes_in_time() {
-    let mut seen = Seen::default();
+    let (mut seen, mut early) = (Seen::default(), 0);
     for number in 0..120 * HISTORIES {
         let case = Case::of_words("a share requested", 1172, number);
         let (mut random, share) = (case.random(), number as u16 % 120 + 1);
-        let calls = random.below(10);
-        let mut sector = Sector::new(case, share, calls, &mut seen, &mut random);
+        let (by, calls) = (random.choose(&[By::HandIn, By::Fetch]), random.below(10));
+        let mut sector = Sector::new(case, share, by, calls, &mut seen);
         sector.do_anything(&mut random);
-        for _ in 0..sector.promised() {
+        while !sector.finished {
+            sector
+                .both
+                .require(sector.rounds < sector.promised(), "too late");
             sector.begin();
             sector.do_anything(&mut random);
-            sector.request();
+            if !sector.finished {
+                sector.request();
+            }
             sector.do_anything(&mut random);
-            let stands = sector.turn() >= sector.due();
+            let stands = sector.turn() >= sector.due() || sector.finished;
             sector.both.require(stands, "fewer turns than its shares");
         }
-        sector.both.require(sector.turn() == 120, "too late");
+        early += u64::from(sector.waits());
+        sector.fetch();
     }
     let histories = 120 * HISTORIES;
-    seen.print(&format!("{histories} histories with a share requested"));
+    seen.print(&format!(
+        "{histories} histories with a share requested, in {early} of which the next matrix waited \
+         at the end"
+    ));
     assert!(seen.worked >= histories, "a sector was not worked in step");
+    assert!(seen.matrices.fetched >= histories, "one was not in step");
+    assert!(early > histories / 16, "few matrices came early");
 }

@@ -1,13 +1,11 @@
 //! Histories of calls from a new desk on, each handed the desk that the last one answered.
 
-use reference::desk::{DeskReply, FIRST_SHARE, SECTORS};
-
-use crate::alone::Alone;
-use crate::common::desk::{BothDesk, Call, Seen};
+use crate::book::Book;
+use crate::common::desk::{BothDesk, Seen};
 use crate::common::Case;
+use crate::early;
 use crate::rules::OtherAnswers;
-use crate::shares::{total, Shares};
-use crate::steps::{Areas, Step, Steps};
+use crate::steps::{Areas, Steps};
 
 /// Histories in which each sector has its own area, and such in which any area is lent.
 const OWN_AREAS: u64 = 5_000;
@@ -16,97 +14,62 @@ const ANY_AREAS: u64 = 2_500;
 /// Every number that the calls can give.
 const NUMBERS: [u8; 11] = [1, 2, 3, 4, 5, 6, 7, 8, 12, 13, 14];
 
-/// What the test itself keeps of a history.
-struct Book {
-    /// The shares that were set last, and those that the round began with.
-    set: Shares,
-    begun: Shares,
-    /// The turns granted to each sector in the round.
-    granted: [u32; SECTORS],
-    /// The sectors without the desk, where each has its own area.
-    alone: Option<[Alone; 8]>,
-}
-
-impl Book {
-    fn new(both: &BothDesk, areas: Areas) -> Self {
-        let alone = (areas == Areas::Own).then(|| Alone::all(both));
-        Book {
-            set: [FIRST_SHARE; SECTORS],
-            begun: [FIRST_SHARE; SECTORS],
-            granted: [0; SECTORS],
-            alone,
-        }
-    }
-
-    /// Holds one call to the laws.
-    fn enter(&mut self, both: &BothDesk, step: &Step, reply: &DeskReply) {
-        self.enter_round(both, &step.call, reply);
-        let Some(alone) = &mut self.alone else { return };
-        if let Some(alone) = step.call.sector().and_then(|s| alone.get_mut(s as usize)) {
-            if reply.number == 0 {
-                alone.make(both, &step.call, reply);
-            }
-            let wrong = reply.number == 8 && alone.is_worked();
-            both.require(!wrong, "a worked matrix was refused");
-        }
-        alone.iter().for_each(|alone| alone.require_same(both));
-    }
-
-    /// What a sector was granted in the round and what it has left make its share when the round
-    /// began. Neither the shares of all nor the turns granted to all are ever more than 120.
-    fn enter_round(&mut self, both: &BothDesk, call: &Call, reply: &DeskReply) {
-        match call {
-            Call::Begin => (self.begun, self.granted) = (self.set, [0; SECTORS]),
-            Call::SetShares { shares } if reply.number == 0 => self.set = *shares,
-            Call::Run { sector, .. } if reply.number == 0 => {
-                self.granted[*sector as usize] += reply.count;
-            }
-            _ => {}
-        }
-        for (k, seat) in both.desk().seats.iter().enumerate() {
-            both.require(seat.share == self.set[k], "a sector has another share");
-            let made = self.granted[k] + u32::from(seat.left) == self.begun[k].into();
-            both.require(made, "a sector has another number of turns left");
-        }
-        let shares = both.desk().seats.map(|seat| seat.share);
-        both.require(total(&shares) <= 120, "the shares are above 120 in total");
-        let granted: u32 = self.granted.iter().sum();
-        both.require(granted <= 120, "a round had more than 120 turns");
-    }
+/// How often other rules would have come to something else.
+struct Noticed {
+    rules: OtherAnswers,
+    early: early::OtherAnswers,
 }
 
 /// Makes the calls of one history, and holds each to the laws and to the other rules.
-fn make_history(case: Case, areas: Areas, seen: &mut Seen, noticed: &mut OtherAnswers) {
+fn make_history(case: Case, areas: Areas, seen: &mut Seen, noticed: &mut Noticed) {
     let mut random = case.random();
-    let served = random.choose(&[1, 2, 3, 5, 8]);
-    let steps = Steps { areas, served };
+    let steps = Steps::of_some(areas, &mut random);
     let mut both = BothDesk::new(case, seen);
     let mut book = Book::new(&both, areas);
-    let count = random.between(10, 50) as usize;
+    let most = if steps.brisk { 90 } else { 50 };
+    let count = random.between(10, most) as usize;
     for step in steps.history(count, &mut random) {
         let handed = step.handed(both.desk());
         let reply = step.make(&mut both);
-        noticed.look(&handed, &step, &reply);
-        book.enter(&both, &step, &reply);
+        noticed.rules.look(&handed, &step, &reply);
+        noticed.early.look(&handed, &step, &reply);
+        book.enter(&both, &handed, &step, &reply);
     }
 }
 
-fn make_histories(test: &'static str, seed: u64, areas: Areas, histories: u64) {
-    let (mut seen, mut noticed) = (Seen::default(), OtherAnswers::NONE);
+fn make_histories(test: &'static str, seed: u64, areas: Areas, histories: u64) -> Seen {
+    let mut seen = Seen::default();
+    let mut noticed = Noticed {
+        rules: OtherAnswers::NONE,
+        early: early::OtherAnswers::NONE,
+    };
     for number in 0..histories {
         let case = Case::of_words(test, seed, number);
         make_history(case, areas, &mut seen, &mut noticed);
     }
     seen.print(&format!("{test}, {histories} of them"));
-    noticed.print_and_require_all_rules(test);
+    noticed.rules.print_and_require_all_rules(test);
+    noticed.early.print_and_require_all_rules(test);
     seen.assert_numbers(&NUMBERS);
     assert!(seen.worked > histories / 20, "few were worked to the end");
+    let matrices = &seen.matrices;
+    assert!(matrices.replaced > histories / 2, "few had to give way");
+    assert!(matrices.brought_in > histories / 40, "few were brought in");
+    seen
 }
 
 /// A sector is as if it had run alone with the turns granted.
 #[test]
 fn sectors_with_their_own_areas_are_as_if_alone() {
-    make_histories("histories, own areas", 1101, Areas::Own, OWN_AREAS);
+    let seen = make_histories("histories, own areas", 1101, Areas::Own, OWN_AREAS);
+    let matrices = &seen.matrices;
+    assert!(matrices.fetched > OWN_AREAS / 8, "few results in step");
+    let brought_in = matrices.fetched_brought_in;
+    assert!(
+        brought_in > OWN_AREAS / 30,
+        "few results of those brought in"
+    );
+    assert!(matrices.fetched_again > OWN_AREAS / 30, "few fetched again");
 }
 
 #[test]

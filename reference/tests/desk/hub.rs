@@ -20,10 +20,25 @@ impl<'a> Hub<'a> {
         Hub { both }
     }
 
+    /// Hands in a matrix that is loaded.
     pub fn load(&mut self, sector: u32, record: Vec<u8>) {
-        let call = Call::Load { sector, record };
+        self.hand_in(sector, record, Job::new(0, 0));
+        assert_eq!(self.seat(sector as usize).waits, 0);
+    }
+
+    /// Hands in a matrix that waits.
+    pub fn keep(&mut self, sector: u32, record: Vec<u8>) {
+        let job = self.seat(sector as usize).job;
+        self.hand_in(sector, record.clone(), job);
+        let seat = self.seat(sector as usize);
+        assert_eq!((seat.waits, &seat.record[..]), (1, &record[..]));
+    }
+
+    /// Hands in a matrix, which answers a job.
+    fn hand_in(&mut self, sector: u32, record: Vec<u8>, job: Job) {
+        let call = Call::HandIn { sector, record };
         let reply = self.both.call(&call, Lent::area(sector as usize));
-        assert_eq!((reply.number, reply.job), (0, Job::new(0, 0)));
+        assert_eq!((reply.number, reply.job), (0, job));
     }
 
     /// The number, and the turns granted.

@@ -8,7 +8,7 @@ use crate::common::desk::{BothDesk, Call, Seen};
 use crate::common::words::arbitrary_area;
 use crate::common::Case;
 use crate::shares::giving;
-use crate::steps::{Step, Steps};
+use crate::steps::{Areas, Step, Steps};
 
 /// Pairs of histories.
 const PAIRS: u64 = 1_500;
@@ -41,12 +41,17 @@ impl Answer {
             fetched: fetched.then(|| both.fetched().to_vec()),
         }
     }
+
+    /// Whether a result was fetched and the next matrix loaded.
+    fn brings_in(&self) -> bool {
+        self.fetched.is_some() && self.seat.job.turn == 0
+    }
 }
 
 /// Makes a random history and answers what one sector knows of it.
 fn first(both: &mut BothDesk, sector: usize, steps: Steps, random: &mut Random) -> Vec<Event> {
     let mut events = Vec::new();
-    for step in steps.history(40, random) {
+    for step in steps.history(60, random) {
         let reply = step.make(both);
         let known = match step.call {
             Call::Begin => true,
@@ -102,21 +107,19 @@ fn others(both: &BothDesk, sector: usize) -> Vec<Seat> {
 
 #[test]
 fn whatever_others_do_a_sector_gets_the_same() {
-    let (mut seen, mut alike, mut granted, mut apart) = (Seen::default(), 0, 0, 0);
+    let (mut seen, mut alike, mut granted, mut brought_in, mut apart) =
+        (Seen::default(), 0, 0, 0, 0);
     for number in 0..PAIRS {
         let case = Case::of_words("what others do", 1111, number);
         let mut random = case.random();
-        let served = random.choose(&[2, 3, 8]);
-        let sector = random.below(served as usize);
-        let steps = Steps {
-            served,
-            ..Steps::OF_ALL
-        };
+        let steps = Steps::of_some(Areas::Own, &mut random);
+        let sector = random.below(steps.served as usize);
         let mut both = BothDesk::new(case.clone(), &mut seen);
         let events = first(&mut both, sector, steps, &mut random);
         let before = others(&both, sector);
         alike += events.len() as u64;
         granted += events.iter().map(|e| e.answer.reply.count).sum::<u32>();
+        brought_in += events.iter().filter(|e| e.answer.brings_in()).count() as u64;
         let mut both = BothDesk::new(case, &mut seen);
         fill_others(&mut both, sector, &mut random);
         second(&mut both, sector, events, &mut random);
@@ -124,8 +127,10 @@ fn whatever_others_do_a_sector_gets_the_same() {
     }
     seen.print(&format!(
         "{PAIRS} pairs of histories, {alike} calls that came to the same for a sector, with \
-         {granted} turns granted, {apart} pairs with others elsewhere at the end"
+         {granted} turns granted and {brought_in} matrices brought in, {apart} pairs with others \
+         elsewhere at the end"
     ));
     assert!(alike > 10 * PAIRS, "few calls were compared");
+    assert!(brought_in > PAIRS / 10, "few matrices were brought in");
     assert!(apart > PAIRS * 9 / 10, "others did the same in many pairs");
 }

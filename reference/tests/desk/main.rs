@@ -4,11 +4,13 @@
 mod common;
 
 mod alone;
+mod book;
+mod early;
 mod finish;
-mod handed_in;
 mod histories;
 mod hub;
 mod isolation;
+mod made_up;
 mod never_loaded;
 mod numbers;
 mod rounds;
@@ -17,3 +19,4 @@ mod sectors;
 mod settings;
 mod shares;
 mod steps;
+mod waiting;

@@ -75,7 +75,7 @@ fn loading_one_sector_loads_no_other() {
         let record = good_record(&mut case.random());
         let mut both = BothDesk::new(case, &mut seen);
         let lent = Lent::area(sector as usize);
-        let heard = both.call(&Call::Load { sector, record }, lent).heard;
+        let heard = both.call(&Call::HandIn { sector, record }, lent).heard;
         both.call(&Call::Run { sector, request: 9 }, lent);
         for other in 0..8 {
             let reply = both.call(&Call::Heard { sector: other }, lent);

@@ -11,7 +11,7 @@ use reference::records::write_matrix;
 
 use crate::common::desk::{BothDesk, Call, Lent, Seen};
 use crate::common::Case;
-use crate::steps::{desk_of, BEYOND};
+use crate::steps::{desk_of, desk_waiting, BEYOND};
 
 /// Ways to pass a test, first, and to fail it.
 const WORDS: [usize; 5] = [512, 513, 0, 1, 511];
@@ -99,14 +99,20 @@ fn matrix_record(kind: u8, length: usize, heard: bool) -> Vec<u8> {
     record
 }
 
+/// Desks at which a matrix is loaded at once, and such at which it has to wait: the tests are those of
+/// Load at all of them.
+fn desks_to_hand_in() -> [Desk; 4] {
+    let [finished, beyond, unfinished] =
+        [(120, 7), (121, 0), (5, 6)].map(|(turn, made)| desk_of(Job { turn, made }, 0));
+    [finished, beyond, unfinished, desk_waiting(finished)]
+}
+
 #[test]
-fn a_refused_load_answers_the_first_test_that_fails() {
+fn a_refused_hand_in_answers_the_first_test_that_fails() {
     let mut seen = Seen::default();
-    let mut numbers = Numbers::new("sets of tests at Load", 1121, &mut seen);
-    for (kind, length) in KINDS
-        .into_iter()
-        .flat_map(|kind| LENGTHS.map(|n| (kind, n)))
-    {
+    let mut numbers = Numbers::new("sets of tests at a hand-in", 1121, &mut seen);
+    let kinds = KINDS.into_iter();
+    for (kind, length) in kinds.flat_map(|kind| LENGTHS.map(|n| (kind, n))) {
         for heard in [true, false] {
             let record = matrix_record(kind, length, heard);
             for (sector, words) in sectors().flat_map(|sector| WORDS.map(|n| (sector, n))) {
@@ -122,13 +128,15 @@ fn a_refused_load_answers_the_first_test_that_fails() {
                     (3, words < AREA_WORDS),
                     (4, !heard),
                 ];
-                let call = Call::Load { sector, record };
-                numbers.call(&desk_of(Job::new(5, 6), 0), &call, lent, tests);
+                let call = Call::HandIn { sector, record };
+                for desk in desks_to_hand_in() {
+                    numbers.call(&desk, &call, lent, tests);
+                }
             }
         }
     }
     numbers.assert_all_sets(5);
-    seen.print("Sets of tests at Load");
+    seen.print("Sets of tests at a hand-in");
 }
 
 #[test]
@@ -168,6 +176,7 @@ fn areas() -> [[i32; AREA_WORDS]; 3] {
     [[0; AREA_WORDS], under, negative]
 }
 
+/// Whether a matrix waits or none, which a Fetch that succeeds brings in.
 #[test]
 fn a_refused_fetch_answers_the_first_test_that_fails() {
     let mut seen = Seen::default();
@@ -188,7 +197,10 @@ fn a_refused_fetch_answers_the_first_test_that_fails() {
                     (8, area > 0),
                 ];
                 let call = Call::Fetch { sector };
-                numbers.call(&desk_of(job, 0), &call, lent, tests);
+                let desk = desk_of(job, 0);
+                numbers.call(&desk, &call, lent, tests);
+                numbers.call(&desk_waiting(desk), &call, lent, tests);
+                numbers.both.fill_area(area, &areas()[area]);
             }
         }
     }

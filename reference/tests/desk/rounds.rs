@@ -135,27 +135,33 @@ fn a_busy_sector_eats_nothing_of_the_others() {
     seen.print("A busy sector");
 }
 
-/// A Load neither takes from what its sector has left nor refills it, and that of an unfinished job
-/// begins anew.
+/// Neither a hand-in nor a Fetch that brings a matrix in takes from what its sector has left, or
+/// refills it.
 #[test]
-fn a_load_leaves_the_count_as_it_is() {
+fn a_matrix_that_comes_leaves_the_count_as_it_is() {
     let mut seen = Seen::default();
-    let mut hub = Hub::new("loads", 1145, &mut seen);
+    let mut hub = Hub::new("counts and matrices", 1145, &mut seen);
+    hub.load(3, clear_record());
     assert_eq!(hub.set_shares([0, 0, 0, 120, 0, 0, 0, 0]), 0);
     hub.begin();
     for (left, request) in [(120, 0), (90, 30), (81, 9), (0, 81)] {
         hub.run(3, request);
-        assert_eq!(hub.seat(3).left, left);
-        for _ in 0..3 {
-            hub.load(3, full_record(1145 + u64::from(left)));
+        for seed in 0..3 {
             assert_eq!(hub.left(), [0, 0, 0, left, 0, 0, 0, 0]);
+            hub.keep(3, full_record(1145 + seed));
         }
     }
+    assert_eq!((hub.fetch(3), hub.seat(3).job), (0, Job::new(0, 0)));
+    assert_eq!(hub.left(), [0; 8]);
     assert_eq!(hub.run(3, 120), (13, 0));
     hub.begin();
     assert_eq!(hub.run(3, 120), (0, 120));
     assert_eq!((hub.fetch(3), hub.seat(3).left), (0, 0));
-    seen.print("Loads");
+    assert_eq!(hub.set_shares([0, 0, 0, 20, 0, 0, 0, 0]), 0);
+    hub.begin();
+    hub.load(3, full_record(1145));
+    assert_eq!((hub.seat(3).left, hub.run(3, 120)), (20, (0, 20)));
+    seen.print("Counts and matrices");
 }
 
 /// A matrix that costs nothing uses up a share all the same.

@@ -1,5 +1,5 @@
-//! Other rules that a builder could take for those of the specification. Where one of them gives
-//! another answer, the comparison tells the two apart.
+//! Other rules that a builder could take for those of the specification, but for the matrix that
+//! comes early. Where one of them gives another answer, the comparison tells the two apart.
 
 use reference::area::AREA_WORDS;
 use reference::desk::{Desk, DeskReply, Seat, SECTORS};
@@ -19,10 +19,10 @@ enum Rule {
     NextPays,
     /// Every count pays, as if the round had one for all.
     AllPay,
-    /// A Load takes a turn.
-    LoadPays,
-    /// A Load refills the count of its sector.
-    LoadRefills,
+    /// A hand-in takes a turn.
+    HandInPays,
+    /// A hand-in refills the count of its sector.
+    HandInRefills,
     /// A share is added to what was left when a round begins.
     LeftKept,
     /// Shares that are set refill the counts at once.
@@ -53,20 +53,33 @@ enum Rule {
     NothingRefused,
     /// 13 for a finished job, too.
     FinishedRefused,
-    /// A Load of an unfinished job is refused.
-    UnfinishedKept,
     /// Only the low byte of a sector counts.
     LowByte,
 }
 
+/// What a sector has of the turns.
+#[derive(Debug, Clone, Copy, PartialEq, Eq)]
+struct Counts {
+    share: u16,
+    left: u16,
+}
+
+fn counts(desk: &Desk) -> [Counts; SECTORS] {
+    let counts = |seat: &Seat| Counts {
+        share: seat.share,
+        left: seat.left,
+    };
+    desk.seats.each_ref().map(counts)
+}
+
 impl Rule {
-    const ALL: [Rule; 23] = [
+    const ALL: [Rule; 22] = [
         Rule::RequestPaid,
         Rule::MadePaid,
         Rule::NextPays,
         Rule::AllPay,
-        Rule::LoadPays,
-        Rule::LoadRefills,
+        Rule::HandInPays,
+        Rule::HandInRefills,
         Rule::LeftKept,
         Rule::SharesAtOnce,
         Rule::SevenKept,
@@ -82,55 +95,50 @@ impl Rule {
         Rule::AllOrNothing,
         Rule::NothingRefused,
         Rule::FinishedRefused,
-        Rule::UnfinishedKept,
         Rule::LowByte,
     ];
 
-    /// What a call answers by this rule, where it is handed a desk and answers something by the
-    /// rules of the specification.
-    fn reply(self, desk: &Desk, step: &Step, stated: &DeskReply) -> DeskReply {
+    /// Whether a call answers something else by this rule, where it is handed a desk and answers
+    /// something by the rules of the specification.
+    fn differs(self, desk: &Desk, step: &Step, stated: &DeskReply) -> bool {
         let number = self.number(desk, step, stated.number);
-        if number != stated.number {
-            return DeskReply {
-                number,
-                ..DeskReply::from(*desk)
-            };
-        }
-        let mut reply = *stated;
-        reply.desk = self.desk(desk, &step.call, stated);
-        if self == Rule::JobGivenBack && number != 0 && matches!(step.call, Call::Run { .. }) {
-            reply.job = seat(desk, &step.call).map_or(stated.job, |seat| seat.job);
-        }
-        reply
+        let gives_back = self == Rule::JobGivenBack && number != 0;
+        let given_back = match (&step.call, seat(desk, &step.call)) {
+            (Call::Run { .. }, Some(seat)) if gives_back => seat.job,
+            _ => stated.job,
+        };
+        number != stated.number
+            || given_back != stated.job
+            || self.counts(desk, &step.call, stated) != counts(&stated.desk)
     }
 
-    /// The desk that is answered, where the number is that of the specification.
-    fn desk(self, desk: &Desk, call: &Call, stated: &DeskReply) -> Desk {
-        let mut answered = stated.desk;
-        let seats = answered.seats.iter_mut();
+    /// The shares that are answered and what is left, where the number is that of the specification.
+    fn counts(self, desk: &Desk, call: &Call, stated: &DeskReply) -> [Counts; SECTORS] {
+        let (before, mut answered) = (counts(desk), counts(&stated.desk));
+        let sectors = answered.iter_mut();
         match (call, stated.number) {
             (Call::Begin, _) if self == Rule::LeftKept => {
-                let seats = seats.zip(&desk.seats);
-                seats.for_each(|(seat, before)| seat.left = seat.left.saturating_add(before.left));
+                let sectors = sectors.zip(&before);
+                sectors.for_each(|(now, before)| now.left = now.left.saturating_add(before.left));
             }
             (Call::SetShares { .. }, 0) if self == Rule::SharesAtOnce => {
-                seats.for_each(|seat| seat.left = seat.share);
+                sectors.for_each(|now| now.left = now.share);
             }
             (Call::SetShares { shares }, 14) if self == Rule::SevenKept => {
-                let seven = seats.zip(shares).take(7);
-                seven.for_each(|(seat, share)| seat.share = *share);
+                let seven = sectors.zip(shares).take(7);
+                seven.for_each(|(now, share)| now.share = *share);
             }
-            (Call::Load { sector, .. }, 0) => {
-                let seat = &mut answered.seats[*sector as usize];
-                seat.left = self.left_by_load(seat);
+            (Call::HandIn { sector, .. }, 0) => {
+                let now = &mut answered[*sector as usize];
+                now.left = self.left_by_hand_in(*now);
             }
             (Call::Run { sector, request }, 0) => {
                 let sector = *sector as usize;
                 let made = stated.job.made - desk.seats[sector].job.made;
                 let turns = [*request, stated.count as u16, made as u16];
-                for (k, seat) in seats.enumerate() {
+                for (k, now) in sectors.enumerate() {
                     let place = (k + SECTORS - sector) % SECTORS;
-                    seat.left = desk.seats[k].left.saturating_sub(self.pays(place, turns));
+                    now.left = before[k].left.saturating_sub(self.pays(place, turns));
                 }
             }
             _ => {}
@@ -138,12 +146,12 @@ impl Rule {
         answered
     }
 
-    /// What a sector has left after its Load.
-    fn left_by_load(self, seat: &Seat) -> u16 {
+    /// What a sector has left after a hand-in.
+    fn left_by_hand_in(self, Counts { share, left }: Counts) -> u16 {
         match self {
-            Rule::LoadPays => seat.left.saturating_sub(1),
-            Rule::LoadRefills => seat.share,
-            _ => seat.left,
+            Rule::HandInPays => left.saturating_sub(1),
+            Rule::HandInRefills => share,
+            _ => left,
         }
     }
 
@@ -162,7 +170,6 @@ impl Rule {
 
     fn number(self, desk: &Desk, step: &Step, stated: u8) -> u8 {
         let seat = seat(desk, &step.call);
-        let unfinished = seat.is_some_and(|seat| seat.job.turn < 120);
         match (self, &step.call) {
             (_, Call::SetShares { shares }) if self.accepts(shares) => 0,
             (_, Call::SetShares { .. }) => 14,
@@ -172,7 +179,6 @@ impl Rule {
                 3
             }
             (Rule::LowByte, Call::Heard { sector }) if *sector as u8 <= 7 => 0,
-            (Rule::UnfinishedKept, Call::Load { .. }) if stated == 0 && unfinished => 6,
             (Rule::AllUsedUp, _) if stated == 13 && desk.seats.iter().any(|seat| seat.left > 0) => {
                 0
             }
@@ -224,8 +230,7 @@ impl OtherAnswers {
     pub const NONE: OtherAnswers = OtherAnswers(Noticed::none(Rule::ALL));
 
     pub fn look(&mut self, desk: &Desk, step: &Step, stated: &DeskReply) {
-        let differs = |rule: Rule| rule.reply(desk, step, stated) != *stated;
-        self.0.look(differs);
+        self.0.look(|rule| rule.differs(desk, step, stated));
     }
 
     pub fn print_and_require_all_rules(&self, test: &str) {

@@ -4,8 +4,8 @@ use reference::desk::{Desk, SECTORS};
 
 use crate::common::desk::{BothDesk, Call, Lent, Seen};
 use crate::common::Case;
-use crate::handed_in::any_desk;
 use crate::hub::{full_record, Hub};
+use crate::made_up::any_desk;
 use crate::shares::{dealt, total, Shares};
 
 /// Makes settings on both sides, each handed a desk.

@@ -31,10 +31,20 @@ pub fn desk_of(job: Job, left: u16) -> Desk {
         heard: 31 * k as u8 + 5,
         share: 9_000 * k as u16 + 7,
         left,
+        ..Seat::NEW
     };
     Desk {
         seats: std::array::from_fn(seat),
     }
+}
+
+/// The same desk with a matrix that waits at every seat, each another one.
+pub fn desk_waiting(mut desk: Desk) -> Desk {
+    for (k, seat) in desk.seats.iter_mut().enumerate() {
+        (seat.waits, seat.record) = (1, [k as u8 + 1; 257]);
+        seat.record[0] = 1;
+    }
+    desk
 }
 
 /// One call of a history.
@@ -83,6 +93,9 @@ pub struct Steps {
     pub areas: Areas,
     /// How many sectors are served. Where they are few, a job is worked on for longer.
     pub served: u32,
+    /// Whether most calls take the work forward, so that many matrices are handed in early, worked to
+    /// the end, fetched and followed by the next.
+    pub brisk: bool,
 }
 
 impl Steps {
@@ -90,7 +103,19 @@ impl Steps {
     pub const OF_ALL: Steps = Steps {
         areas: Areas::Own,
         served: 8,
+        brisk: false,
     };
+
+    /// Steps of a few sectors or of all. Every other time they are brisk, and those of a few.
+    pub fn of_some(areas: Areas, random: &mut Random) -> Self {
+        let brisk = random.one_in(2);
+        let served: &[u32] = if brisk { &[1, 2, 3] } else { &[2, 3, 5, 8] };
+        Steps {
+            areas,
+            served: random.choose(served),
+            brisk,
+        }
+    }
 
     /// The steps of a history. Three in four begin a round with shares for those who are served: a
     /// share of 15 finishes few jobs in so few calls.
@@ -108,7 +133,11 @@ impl Steps {
 
     pub fn draw(self, random: &mut Random) -> Step {
         let sector = any_sector(self.served, random);
-        let call = any_call(sector, self.served, random);
+        let call = if self.brisk && !random.one_in(4) {
+            brisk_call(sector, random)
+        } else {
+            any_call(sector, self.served, random)
+        };
         let area = match self.areas {
             Areas::Own if sector < 8 => sector as usize,
             Areas::Any if sector < 8 && random.one_in(2) => sector as usize,
@@ -151,13 +180,29 @@ fn any_call(sector: u32, served: u32, random: &mut Random) -> Call {
         },
         5..=6 => Call::Heard { sector },
         7..=9 => Call::Fetch { sector },
-        10..=13 => Call::Load {
+        10..=13 => Call::HandIn {
             sector,
             record: any_record(random),
         },
         _ => Call::Run {
             sector,
             request: any_request(random),
+        },
+    }
+}
+
+/// A call that takes the work of a sector forward.
+fn brisk_call(sector: u32, random: &mut Random) -> Call {
+    match random.below(9) {
+        0..=1 => Call::Begin,
+        2..=4 => Call::Run {
+            sector,
+            request: random.choose(&[60, 119, 120, u16::MAX]),
+        },
+        5..=6 => Call::Fetch { sector },
+        _ => Call::HandIn {
+            sector,
+            record: any_record(random),
         },
     }
 }
@@ -189,7 +234,7 @@ fn any_lent(area: usize, random: &mut Random) -> Lent {
     }
 }
 
-/// A record that Load accepts. At least every other matrix has zeros in whole regions, so that many
+/// A record that is accepted. At least every other matrix has zeros in whole regions, so that many
 /// of its turns are skipped.
 pub fn good_record(random: &mut Random) -> Vec<u8> {
     let kinds: &[Kind] = if random.one_in(2) {
@@ -201,7 +246,7 @@ pub fn good_record(random: &mut Random) -> Vec<u8> {
     write_matrix(&kind.matrix(random)).to_vec()
 }
 
-/// A record of which Load accepts three in four. The others are refused with 1, 2 or 4.
+/// A record of which three in four are accepted. The others are refused with 1, 2 or 4.
 fn any_record(random: &mut Random) -> Vec<u8> {
     let mut record = good_record(random);
     match random.below(16) {

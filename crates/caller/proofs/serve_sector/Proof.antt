@@ -6,10 +6,10 @@ use lib.IntN.{ℤ}
 use borrow.Author.Needs.{needs}
 use Rattle.desk.specs.declared.Desk.{Desk}
 use Rattle.desk.specs.declared.DeskReply.{DeskReply}
-use Rattle.desk.specs.declared.load.DeskLoadReply.{DeskLoadReply}
+use Rattle.desk.specs.declared.hand_in.DeskLoadReply.{DeskLoadReply}
 use Rattle.desk.specs.declared.run.DeskRunReply.{DeskRunReply}
 use Rattle.desk.specs.Desk.{newDesk, beginOf}
-use Rattle.desk.specs.Load.{deskLoadOf}
+use Rattle.desk.specs.HandIn.{handInOf}
 use Rattle.desk.specs.Run.{deskRunOf}
 use Rattle.desk.specs.Fetch.{deskFetchOf}
 use Rattle.desk.specs.Shares.{setSharesOf}
@@ -26,8 +26,11 @@ hubqr-desk-set-shares-requires c κs = search needs
 hubqr-desk-begin-requires : tie.Need-hubqr-desk-begin-requires
 hubqr-desk-begin-requires c κs = search needs
 
-hubqr-desk-load-requires : tie.Need-hubqr-desk-load-requires
-hubqr-desk-load-requires c κs = search needs
+hubqr-desk-hand-in-requires : tie.Need-hubqr-desk-hand-in-requires
+hubqr-desk-hand-in-requires c κs = search needs
+
+hubqr-desk-hand-in-requires-2 : tie.Need-hubqr-desk-hand-in-requires-2
+hubqr-desk-hand-in-requires-2 c κs = search needs
 
 hubqr-desk-run-requires : tie.Need-hubqr-desk-run-requires
 hubqr-desk-run-requires c κs = search needs
@@ -41,22 +44,24 @@ same-length c = search needs
 same-length-2 : tie.Need-same-length-2
 same-length-2 c = search needs
 
-served-is : (shares : List ℕ) (sector : ℕ) (rec : List ℕ) (l words end : List ℤ) (buffer out : List ℕ) (new : Desk) (set begun : DeskReply) (load : DeskLoadReply) (run : DeskRunReply) (fetch : DeskReply) → new ≡ newDesk
-    → set ≡ setSharesOf new shares → begun ≡ beginOf (set .desk)
-    → record { reply = load; area = words } ≡ deskLoadOf (begun .desk) sector rec l → record { reply = run; area = end } ≡ deskRunOf (load .desk) sector 120 words
-    → record { reply = fetch; buffer = out } ≡ deskFetchOf (run .desk) sector end buffer
-    → record { reply = record { set = set; begun = begun; load = load; run = run; fetch = fetch }; area = end; buffer = out } ≡ servedOf shares sector rec l buffer
+served-is : (shares : List ℕ) (sector : ℕ) (rec following : List ℕ) (l one two end last : List ℤ) (buffer out : List ℕ) (new : Desk) (set begun : DeskReply) (first early : DeskLoadReply) (run : DeskRunReply) (fetch : DeskReply) → new ≡ newDesk
+    → set ≡ setSharesOf new shares → begun ≡ beginOf (set .desk) → record { reply = first; area = one } ≡ handInOf (begun .desk) sector rec l
+    → record { reply = early; area = two } ≡ handInOf (first .desk) sector following one → record { reply = run; area = end } ≡ deskRunOf (early .desk) sector 120 two
+    → record { reply = fetch; area = last; buffer = out } ≡ deskFetchOf (run .desk) sector end buffer
+    → record { reply = record { set = set; begun = begun; first = first; early = early; run = run; fetch = fetch }; area = last; buffer = out } ≡ servedOf shares sector rec following l buffer
 unfolding servedOf
-served-is shares sector rec l words end buffer out new set begun load run fetch n s b d e f = rw (← n, ← s, ← b, ← d, ← e, ← f)
+served-is shares sector rec following l one two end last buffer out new set begun first early run fetch n s b d g e f =
+    rw (← n, ← s, ← b, ← d, ← g, ← e, ← f)
 
 returns : tie.Need-returns
 returns c =
-    let f = c .before .before in
+    let f = c .before .before .before in
     let r = f .before .before .before .before in
-    let l = r .before .before .before in
-    let b = l .before .before in
+    let e = r .before .before .before in
+    let d = e .before .before .before in
+    let b = d .before .before in
     let s = b .before in
-    served-is _ _ _ _ _ _ _ _ _ _ _ _ _ _ (s .before .hubqr-desk-new .ensures) (s .hubqr-desk-set-shares .ensures) (b .hubqr-desk-begin .ensures) (l .hubqr-desk-load .ensures) (r .hubqr-desk-run .ensures) (f .hubqr-desk-fetch .ensures)
+    served-is _ _ _ _ _ _ _ _ _ _ _ _ _ _ _ _ _ _ (s .before .hubqr-desk-new .ensures) (s .hubqr-desk-set-shares .ensures) (b .hubqr-desk-begin .ensures) (d .hubqr-desk-hand-in .ensures) (e .hubqr-desk-hand-in2 .ensures) (r .hubqr-desk-run .ensures) (f .hubqr-desk-fetch .ensures)
 
 pub serve-sector-spec : {M : Type 1} → statement M
 serve-sector-spec =
@@ -65,7 +70,8 @@ serve-sector-spec =
     hubqr-desk-new-requires
     hubqr-desk-set-shares-requires
     hubqr-desk-begin-requires
-    hubqr-desk-load-requires
+    hubqr-desk-hand-in-requires
+    hubqr-desk-hand-in-requires-2
     hubqr-desk-run-requires
     hubqr-desk-fetch-requires
     same-length

@@ -1,15 +1,18 @@
-//! A hub serves its eight sectors by one desk: gives each a share of a round, loads each from a
-//! record, requests turns for all of them in round after round until their jobs are finished, and
+//! A hub serves its eight sectors by one desk: gives each a share of a round, hands in a record for
+//! each, requests turns for all of them in round after round until their jobs are finished, and
 //! compares each result, byte for byte, with what Whole makes of the same record. One sector requests
-//! all that it can and more, and the others are served all the same.
+//! all that it can and more, and the others are served all the same. Another one has its next matrix
+//! early: it is handed in while the first is worked, waits in the desk, and is brought in when the
+//! first is fetched.
 //!
 //! ```text
 //! cargo run -p instalments --bin desk [RECORD...]
 //! ```
 //!
 //! The records, eight at most, are those of sectors 0, 1 and on; a sector without one is never
-//! loaded. Without an argument it takes sample records, seen from the top of the repository. One of
-//! them is refused, so its sector is never loaded either.
+//! loaded. The last of them is also the one that comes early. Without an argument it takes sample
+//! records, seen from the top of the repository. One of them is refused, so its sector is never loaded
+//! either.
 use std::env;
 use std::ffi::OsString;
 use std::fs::File;
@@ -17,7 +20,7 @@ use std::io::{self, ErrorKind, Read, Write};
 use std::path::{Path, PathBuf};
 use std::process::ExitCode;
 
-use hubqr::{Desk, Refusal};
+use hubqr::{Desk, HandedIn, Refusal};
 use hubqr::{AREA_WORDS, MATRIX_RECORD_BYTES, RESULT_RECORD_BYTES, ROUND_TURNS, SECTORS, TURNS};
 
 /// Sectors 0 and 5 are busy and get more than the others. What the others have at a new desk would be
@@ -27,6 +30,10 @@ const SHARES: [u16; SECTORS] = [35, 10, 10, 10, 10, 25, 10, 10];
 
 /// The sector that requests all 120 turns of each round, twice. The others request their share.
 const GREEDY: usize = 5;
+
+/// The sector whose next matrix is early, and the round in which it is handed in.
+const EARLY: usize = 0;
+const EARLY_ROUND: u32 = 2;
 
 const RECORDS: &str = "examples/records";
 
@@ -42,10 +49,17 @@ const SAMPLES: [&str; SECTORS] = [
     "loose-plug.bin",
 ];
 
-/// What the hub keeps for a sector beside the desk.
-struct Sector {
+/// A record as it was read.
+#[derive(Clone, Default)]
+struct Matrix {
     path: PathBuf,
     record: Vec<u8>,
+}
+
+/// What the hub keeps for a sector beside the desk.
+struct Sector {
+    /// The one that is worked.
+    matrix: Matrix,
     area: [i32; AREA_WORDS],
     /// Those in which it was served.
     rounds: u32,
@@ -53,7 +67,9 @@ struct Sector {
 
 struct Hub {
     desk: Desk,
-    sectors: Vec<Sector>,
+    sectors: [Sector; SECTORS],
+    /// The one that comes early.
+    next: Matrix,
 }
 
 fn main() -> ExitCode {
@@ -66,9 +82,8 @@ fn main() -> ExitCode {
         true => SAMPLES.map(|name| Path::new(RECORDS).join(name)).to_vec(),
         false => arguments.into_iter().map(PathBuf::from).collect(),
     };
-    let sectors: Result<Vec<Sector>, String> = paths.into_iter().map(read_sector).collect();
-    let desk = Desk::new();
-    let served = sectors.map(|sectors| serve(Hub { desk, sectors }, &mut io::stdout().lock()));
+    let matrices: Result<Vec<Matrix>, String> = paths.into_iter().map(read_record).collect();
+    let served = matrices.map(|matrices| serve(&matrices, &mut io::stdout().lock()));
     let sentence = match served {
         Ok(Ok(true)) => return ExitCode::SUCCESS,
         Ok(Ok(false)) => return ExitCode::from(1),
@@ -81,37 +96,56 @@ fn main() -> ExitCode {
     ExitCode::from(1)
 }
 
-/// Reads a sector's record, or says what is wrong with the file. One byte more than a record has is
-/// read, if there is one, so that Load sees a file that is too long.
-fn read_sector(path: PathBuf) -> Result<Sector, String> {
+/// Reads a record, or says what is wrong with the file. One byte more than a record has is read, if
+/// there is one, so that a hand-in sees a file that is too long.
+fn read_record(path: PathBuf) -> Result<Matrix, String> {
     let mut record = Vec::new();
     let most = MATRIX_RECORD_BYTES as u64 + 1;
     File::open(&path)
         .and_then(|file| file.take(most).read_to_end(&mut record))
         .map_err(|error| format!("{}: {error}", path.display()))?;
-    Ok(Sector {
-        path,
-        record,
-        area: [0; AREA_WORDS],
-        rounds: 0,
-    })
+    Ok(Matrix { path, record })
 }
 
-/// Serves all sectors until their jobs are finished, and answers whether all results are right. The
-/// first round is begun as well: the one that a new desk stands at the start of has the first shares,
-/// 15 for each sector.
-fn serve(mut hub: Hub, output: &mut impl Write) -> io::Result<bool> {
+/// Serves the sectors that these matrices are for, and answers whether all results are right.
+fn serve(matrices: &[Matrix], output: &mut impl Write) -> io::Result<bool> {
+    let mut hub = Hub {
+        desk: Desk::new(),
+        sectors: std::array::from_fn(|_| Sector {
+            matrix: Matrix::default(),
+            area: [0; AREA_WORDS],
+            rounds: 0,
+        }),
+        next: matrices.last().cloned().unwrap_or_default(),
+    };
     set_shares(&mut hub, TOO_MANY, output)?;
     set_shares(&mut hub, SHARES, output)?;
-    load_sectors(&mut hub, output)?;
+    for (k, matrix) in matrices.iter().enumerate() {
+        hand_in(&mut hub, k, matrix, output)?;
+    }
+    let fetched = serve_rounds(&mut hub, output)?;
+    let right = print_results(&mut hub, output)?;
+    Ok(fetched && right)
+}
+
+/// Serves rounds until all jobs are finished. The first is begun as well: the one that a new desk
+/// stands at the start of has the first shares, 15 for each sector. Answers whether the result that is
+/// fetched on the way is right.
+fn serve_rounds(hub: &mut Hub, output: &mut impl Write) -> io::Result<bool> {
+    let mut right = true;
     print_header(output)?;
     let mut round = 1;
     while !hub.desk.jobs.iter().all(|job| job.is_finished()) && hub.desk.begin().is_ok() {
-        serve_round(&mut hub, round, output)?;
+        if round == EARLY_ROUND {
+            let next = hub.next.clone();
+            hand_in(hub, EARLY, &next, output)?;
+        }
+        serve_round(hub, round, output)?;
+        right = fetch_early(hub, output)? && right;
         round += 1;
     }
     writeln!(output)?;
-    print_results(&mut hub, output)
+    Ok(right)
 }
 
 /// Sets the shares, which count from the next round on. If they are refused, the desk keeps those
@@ -128,18 +162,24 @@ fn set_shares(hub: &mut Hub, shares: [u16; SECTORS], output: &mut impl Write) ->
     }
 }
 
-/// Loads the sectors that have a record. A refused Load leaves its sector as it was, and the others
-/// are served all the same.
-fn load_sectors(hub: &mut Hub, output: &mut impl Write) -> io::Result<()> {
-    for (sector, k) in hub.sectors.iter_mut().zip(0..) {
-        let loaded = hub.desk.load(k, &sector.record, &mut sector.area);
-        write!(output, "sector {k}: {}: ", sector.path.display())?;
-        match loaded {
-            Ok(loaded) => writeln!(output, "heard byte {:02X}", loaded.heard)?,
-            Err(refusal) => print_refusal(refusal, output)?,
+/// Hands in a matrix for a sector: it is loaded or waits, and the desk tells which. A refused hand-in
+/// leaves the sector as it was, with what waits for it, and the others are served all the same.
+fn hand_in(hub: &mut Hub, k: usize, matrix: &Matrix, output: &mut impl Write) -> io::Result<()> {
+    let sector = &mut hub.sectors[k];
+    let reply = hub.desk.hand_in(k as u32, &matrix.record, &mut sector.area);
+    write!(output, "sector {k}: {}: ", matrix.path.display())?;
+    match reply {
+        Err(refusal) => print_refusal(refusal, output),
+        Ok(HandedIn { heard, job, .. }) if hub.desk.waits[k] != 0 => writeln!(
+            output,
+            "waits, heard byte {heard:02X} and turn number {} as they stand",
+            job.turn
+        ),
+        Ok(HandedIn { heard, .. }) => {
+            sector.matrix = matrix.clone();
+            writeln!(output, "loaded, heard byte {heard:02X}")
         }
     }
-    Ok(())
 }
 
 fn print_refusal(refusal: Refusal, output: &mut impl Write) -> io::Result<()> {
@@ -207,9 +247,9 @@ fn print_results(hub: &mut Hub, output: &mut impl Write) -> io::Result<bool> {
 }
 
 /// Prints what became of a sector that was loaded. Answers whether its result is right, and took no
-/// more rounds than 120 divided by its share, rounded up.
+/// more rounds than 120 divided by its share, rounded up. Its heard byte and job are looked at before
+/// Fetch, which may bring in the next matrix.
 fn print_result(hub: &mut Hub, k: usize, output: &mut impl Write) -> io::Result<bool> {
-    let same = fetched_as_whole(hub, k).unwrap_or(false);
     let (heard, made, share) = (hub.desk.heard[k], hub.desk.jobs[k].made, hub.desk.shares[k]);
     let (rounds, most) = (hub.sectors[k].rounds, TURNS.div_ceil(share.into()));
     write!(output, "heard byte {heard:02X}, {made} turns made, ")?;
@@ -217,17 +257,38 @@ fn print_result(hub: &mut Hub, k: usize, output: &mut impl Write) -> io::Result<
         output,
         "share {share}, finished in {rounds} rounds of at most {most}, "
     )?;
+    let same = fetched_as_whole(hub, k).unwrap_or(false);
     let is = if same { "is" } else { "is not" };
     writeln!(output, "the result {is} the one that Whole makes")?;
     Ok(same && rounds <= most)
 }
 
+/// Fetches the first result of the sector whose next matrix waits, once it is finished. Answers whether
+/// it is right.
+fn fetch_early(hub: &mut Hub, output: &mut impl Write) -> io::Result<bool> {
+    if hub.desk.waits[EARLY] == 0 || !hub.desk.jobs[EARLY].is_finished() {
+        return Ok(true);
+    }
+    write!(output, "sector {EARLY}: ")?;
+    let right = print_result(hub, EARLY, output)?;
+    let sector = &mut hub.sectors[EARLY];
+    sector.matrix = hub.next.clone();
+    sector.rounds = 0;
+    writeln!(
+        output,
+        "sector {EARLY}: {}: brought in, heard byte {:02X}",
+        hub.next.path.display(),
+        hub.desk.heard[EARLY]
+    )?;
+    Ok(right)
+}
+
 /// Whether the result that is fetched for a sector is the one that Whole makes of its record.
 fn fetched_as_whole(hub: &mut Hub, k: usize) -> Result<bool, Refusal> {
-    let Sector { record, area, .. } = &hub.sectors[k];
+    let Sector { matrix, area, .. } = &mut hub.sectors[k];
     let mut fetched = [0; RESULT_RECORD_BYTES];
     hub.desk.fetch(k as u32, area, &mut fetched)?;
     let mut expected = [0; RESULT_RECORD_BYTES];
-    hubqr::whole(record, &mut [0; AREA_WORDS], &mut expected)?;
+    hubqr::whole(&matrix.record, &mut [0; AREA_WORDS], &mut expected)?;
     Ok(fetched == expected)
 }

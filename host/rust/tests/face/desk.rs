@@ -1,9 +1,11 @@
 //! The desk: each sector beside the engine's own calls on another area, what its share grants it, and
 //! refusals.
+mod waiting;
+
 use crate::job::element;
-use crate::lent::{at, equal_parts, matrix, mixed_matrix, Lent, MIXED_HEARD};
+use crate::lent::{at, equal_parts, matrix, mixed_matrix, Lent};
 use hubqr::Refusal::{self, *};
-use hubqr::{ffi, Desk, Job, AREA_WORDS, KIND_RESULT, RESULT_RECORD_BYTES};
+use hubqr::{ffi, Desk, Job, AREA_WORDS, KIND_RESULT, MATRIX_RECORD_BYTES, RESULT_RECORD_BYTES};
 use hubqr::{FIRST_SHARE, ROUND_TURNS, SECTORS};
 use std::mem::{align_of, offset_of, size_of};
 
@@ -44,16 +46,33 @@ impl Hub {
         }
     }
 
-    /// Loads a record: nothing of the desk changes but the sector's job and heard byte.
+    /// Hands in a record that is loaded: nothing of the desk changes but the sector's job and heard
+    /// byte.
     fn load(&mut self, sector: usize, record: &[u8]) {
         let mut due = self.desk.clone();
         let alone = hubqr::load(record, &mut self.alone[sector].area).unwrap();
         (due.jobs[sector], due.heard[sector]) = (alone.job, alone.heard);
+        self.hand_in(sector, record, &due);
+    }
+
+    /// Hands in a record that waits: nothing of the desk changes but that, and the area stays.
+    fn keep(&mut self, sector: usize, record: &[u8]) {
+        let mut due = self.desk.clone();
+        due.waits[sector] = 1;
+        room(&mut due, sector).copy_from_slice(record);
+        self.hand_in(sector, record, &due);
+    }
+
+    /// Hands in a record, which answers the desk that is due, and the job and the heard byte that the
+    /// sector has there.
+    fn hand_in(&mut self, sector: usize, record: &[u8], due: &Desk) {
         let area = &mut self.lent[sector].area;
-        let loaded = self.desk.load(sector as u32, record, area);
-        assert_eq!((loaded, &self.desk), (Ok(alone), &due));
+        let handed_in = self.desk.hand_in(sector as u32, record, area).unwrap();
+        assert_eq!(&self.desk, due);
+        assert_eq!(handed_in.job, due.jobs[sector]);
+        assert_eq!(handed_in.heard, due.heard[sector]);
         assert_eq!(self.lent[sector], self.alone[sector]);
-        assert_eq!(self.desk.heard(sector as u32), Ok(alone.heard));
+        assert_eq!(self.desk.heard(sector as u32), Ok(handed_in.heard));
     }
 
     /// A Run that is granted so many turns, which the sector pays of what it has left.
@@ -70,15 +89,23 @@ impl Hub {
         assert_eq!(self.lent[sector], self.alone[sector]);
     }
 
-    /// A Fetch gives what Whole makes of the record, and the desk stays.
+    /// A Fetch gives what Whole makes of the record. With none waiting, desk and area stay; otherwise the
+    /// one that waits is loaded.
     fn fetch(&mut self, sector: usize, record: &[u8]) {
-        let desk = self.desk.clone();
+        let mut due = self.desk.clone();
+        if due.waits[sector] > 0 {
+            let next = room(&mut due, sector).to_vec();
+            let alone = hubqr::load(&next, &mut self.alone[sector].area).unwrap();
+            (due.jobs[sector], due.heard[sector]) = (alone.job, alone.heard);
+            due.waits[sector] = 0;
+        }
         let mut whole = Lent::new();
         hubqr::whole(record, &mut whole.area, &mut whole.buffer).unwrap();
-        let mut lent = self.lent[sector].clone();
-        let fetched = self.desk.fetch(sector as u32, &lent.area, &mut lent.buffer);
-        assert_eq!((fetched, &self.desk), (Ok(()), &desk));
-        assert_eq!(lent, whole);
+        let (area, mut buffer) = (&mut self.lent[sector].area, Lent::new().buffer);
+        let fetched = self.desk.fetch(sector as u32, area, &mut buffer);
+        assert_eq!((fetched, &self.desk), (Ok(()), &due));
+        assert_eq!(buffer, whole.buffer);
+        assert_eq!(self.lent[sector], self.alone[sector]);
     }
 
     /// A Run that is refused, since the sector has nothing left.
@@ -103,6 +130,11 @@ impl Hub {
     }
 }
 
+/// The bytes of a desk in which the record of a sector waits.
+fn room(desk: &mut Desk, sector: usize) -> &mut [u8] {
+    &mut desk.records[MATRIX_RECORD_BYTES * sector..][..MATRIX_RECORD_BYTES]
+}
+
 /// A matrix in which antennas 0 to `sector` alone have anything in their columns, and are heard.
 fn record_of(sector: usize) -> Vec<u8> {
     matrix(|i, j| match j <= sector {
@@ -112,13 +144,15 @@ fn record_of(sector: usize) -> Vec<u8> {
     })
 }
 
-/// A desk whose sectors differ.
+/// A desk whose sectors differ, and a matrix waits for every other one.
 fn busy() -> Desk {
     Desk {
         jobs: std::array::from_fn(|k| at(10 * k as u32, k as u32)),
         heard: std::array::from_fn(|k| 0xf0 + k as u8),
         shares: std::array::from_fn(|k| 20 - 2 * k as u16),
         left: std::array::from_fn(|k| 9 - k as u16),
+        waits: std::array::from_fn(|k| k as u8 % 2),
+        records: std::array::from_fn(|k| k as u8),
     }
 }
 
@@ -129,13 +163,16 @@ fn placed(sector: usize, job: Job, left: u16) -> Desk {
     desk
 }
 
-/// A desk that no calls lead to: one job is unfinished, and the shares are far above 120.
+/// A desk that no calls lead to: one job is unfinished, the shares are far above 120, and what would
+/// wait for a sector is no record.
 fn made_up() -> Desk {
     let mut desk = Desk {
         jobs: [at(u32::MAX, u32::MAX); SECTORS],
         heard: [0xc3; SECTORS],
         shares: [u16::MAX; SECTORS],
         left: [u16::MAX; SECTORS],
+        waits: [0; SECTORS],
+        records: [0x3c; SECTORS * MATRIX_RECORD_BYTES],
     };
     (desk.jobs[2], desk.jobs[6]) = (at(5, 6), at(118, 1));
     desk.shares[5] = 0;
@@ -155,33 +192,35 @@ fn refused<T>(
 
 #[test]
 fn structs_of_the_desk_have_their_layout_in_c() {
-    assert_eq!((size_of::<Desk>(), align_of::<Desk>()), (104, 4));
+    assert_eq!((size_of::<Desk>(), align_of::<Desk>()), (2168, 4));
     assert_eq!(offset_of!(Desk, jobs), 0);
     assert_eq!(offset_of!(Desk, heard), 64);
     assert_eq!(offset_of!(Desk, shares), 72);
     assert_eq!(offset_of!(Desk, left), 88);
+    assert_eq!(offset_of!(Desk, waits), 104);
+    assert_eq!(offset_of!(Desk, records), 112);
     assert_eq!(size_of::<ffi::Shares>(), 16);
     assert_eq!(align_of::<ffi::Shares>(), 2);
     assert_eq!(offset_of!(ffi::Shares, shares), 0);
-    assert_eq!(size_of::<ffi::DeskReply>(), 108);
+    assert_eq!(size_of::<ffi::DeskReply>(), 2172);
     assert_eq!(offset_of!(ffi::DeskReply, desk), 0);
-    assert_eq!(offset_of!(ffi::DeskReply, number), 104);
-    assert_eq!(size_of::<ffi::DeskLoadReply>(), 116);
+    assert_eq!(offset_of!(ffi::DeskReply, number), 2168);
+    assert_eq!(size_of::<ffi::DeskLoadReply>(), 2180);
     assert_eq!(offset_of!(ffi::DeskLoadReply, desk), 0);
-    assert_eq!(offset_of!(ffi::DeskLoadReply, number), 104);
-    assert_eq!(offset_of!(ffi::DeskLoadReply, heard), 105);
-    assert_eq!(offset_of!(ffi::DeskLoadReply, job), 108);
-    assert_eq!(size_of::<ffi::DeskRunReply>(), 128);
+    assert_eq!(offset_of!(ffi::DeskLoadReply, number), 2168);
+    assert_eq!(offset_of!(ffi::DeskLoadReply, heard), 2169);
+    assert_eq!(offset_of!(ffi::DeskLoadReply, job), 2172);
+    assert_eq!(size_of::<ffi::DeskRunReply>(), 2192);
     assert_eq!(offset_of!(ffi::DeskRunReply, desk), 0);
-    assert_eq!(offset_of!(ffi::DeskRunReply, number), 104);
-    assert_eq!(offset_of!(ffi::DeskRunReply, job), 108);
-    assert_eq!(offset_of!(ffi::DeskRunReply, count), 116);
-    assert_eq!(offset_of!(ffi::DeskRunReply, clamps_r), 120);
-    assert_eq!(offset_of!(ffi::DeskRunReply, clamps_q), 124);
-    assert_eq!(size_of::<ffi::DeskHeardReply>(), 108);
+    assert_eq!(offset_of!(ffi::DeskRunReply, number), 2168);
+    assert_eq!(offset_of!(ffi::DeskRunReply, job), 2172);
+    assert_eq!(offset_of!(ffi::DeskRunReply, count), 2180);
+    assert_eq!(offset_of!(ffi::DeskRunReply, clamps_r), 2184);
+    assert_eq!(offset_of!(ffi::DeskRunReply, clamps_q), 2188);
+    assert_eq!(size_of::<ffi::DeskHeardReply>(), 2172);
     assert_eq!(offset_of!(ffi::DeskHeardReply, desk), 0);
-    assert_eq!(offset_of!(ffi::DeskHeardReply, number), 104);
-    assert_eq!(offset_of!(ffi::DeskHeardReply, heard), 105);
+    assert_eq!(offset_of!(ffi::DeskHeardReply, number), 2168);
+    assert_eq!(offset_of!(ffi::DeskHeardReply, heard), 2169);
 }
 
 #[test]
@@ -191,6 +230,8 @@ fn a_new_desk_stands_at_the_start_of_a_round() {
         heard: [0; SECTORS],
         shares: [15; SECTORS],
         left: [15; SECTORS],
+        waits: [0; SECTORS],
+        records: [0; 2056],
     };
     assert_eq!([Desk::new(), Desk::default()], [due.clone(), due]);
     assert_eq!((SECTORS, ROUND_TURNS, FIRST_SHARE), (8, 120, 15));
@@ -338,26 +379,6 @@ fn the_smallest_is_granted() {
     }
 }
 
-#[test]
-fn load_drops_a_job_and_leaves_the_count() {
-    let record = mixed_matrix();
-    for sector in 0..SECTORS {
-        let mut hub = Hub::new();
-        hub.set_shares(only(sector, 120));
-        hub.begin();
-        hub.load(sector, &record);
-        hub.run(sector, 70, 70);
-        hub.load(sector, &record);
-        hub.run(sector, u16::MAX, 50);
-        hub.load(sector, &record);
-        hub.used_up(sector, 1);
-        hub.begin();
-        hub.run(sector, 120, 120);
-        hub.fetch(sector, &record);
-        assert_eq!(hub.desk.heard(sector as u32), Ok(MIXED_HEARD));
-    }
-}
-
 /// Its work counts as done, so that Run makes nothing and Fetch takes the words that are there.
 #[test]
 fn a_sector_that_was_never_loaded_is_served() {
@@ -368,11 +389,11 @@ fn a_sector_that_was_never_loaded_is_served() {
             hub.run(sector as usize, u16::MAX, 0);
             assert_eq!(hub.desk.heard(sector), Ok(0));
             let mut buffer = [7; RESULT_RECORD_BYTES];
-            let fetched = hub.desk.fetch(sector, &[0; AREA_WORDS], &mut buffer);
+            let fetched = hub.desk.fetch(sector, &mut [0; AREA_WORDS], &mut buffer);
             assert_eq!((fetched, buffer[0]), (Ok(()), KIND_RESULT));
             assert_eq!(buffer[1..], [0; RESULT_RECORD_BYTES - 1]);
             let fetch = |desk: &mut Desk, lent: &mut Lent, bytes: usize| {
-                desk.fetch(sector, &lent.area, &mut lent.buffer[..bytes])
+                desk.fetch(sector, &mut lent.area, &mut lent.buffer[..bytes])
             };
             refused(&hub.desk, |d, l| fetch(d, l, 2048), BufferTooShort);
             refused(&hub.desk, |d, l| fetch(d, l, 2049), NotTriangular);
@@ -389,11 +410,11 @@ fn a_made_up_desk_is_taken_as_it_is() {
     hub.run(6, u16::MAX, 2);
     refused(&hub.desk, |d, l| d.run(2, 1, &mut l.area), NoSuchJob);
     refused(&hub.desk, |d, l| d.run(7, 0, &mut l.area), NoSuchJob);
-    hub.load(2, &record_of(2));
-    hub.run(2, u16::MAX, 120);
-    assert_eq!(hub.desk.left[2], u16::MAX - 120);
+    hub.load(7, &record_of(2));
+    hub.run(7, u16::MAX, 120);
+    assert_eq!(hub.desk.left[7], u16::MAX - 120);
     assert_eq!(hub.desk.left[6], u16::MAX - 2);
-    hub.fetch(2, &record_of(2));
+    hub.fetch(7, &record_of(2));
     hub.begin(); // shares far above 120 are taken as well
     hub.load(5, &record_of(5));
     hub.used_up(5, 1);
@@ -411,28 +432,32 @@ fn no_other_sector_is_served() {
             for left in [0, 9] {
                 let desk = placed(sector as usize % SECTORS, job, left);
                 let with = NoSuchSector;
-                refused(&desk, |d, l| d.load(sector, &record, &mut l.area), with);
-                refused(&desk, |d, l| d.load(sector, &hum, &mut l.area), with);
-                refused(&desk, |d, _| d.load(sector, &[], &mut []), with);
+                refused(&desk, |d, l| d.hand_in(sector, &record, &mut l.area), with);
+                refused(&desk, |d, l| d.hand_in(sector, &hum, &mut l.area), with);
+                refused(&desk, |d, _| d.hand_in(sector, &[], &mut []), with);
                 refused(&desk, |d, l| d.run(sector, 1, &mut l.area), with);
                 refused(&desk, |d, _| d.run(sector, 0, &mut []), with);
-                refused(&desk, |d, l| d.fetch(sector, &l.area, &mut l.buffer), with);
-                refused(&desk, |d, _| d.fetch(sector, &[], &mut []), with);
+                let fetch =
+                    |d: &mut Desk, l: &mut Lent| d.fetch(sector, &mut l.area, &mut l.buffer);
+                refused(&desk, fetch, with);
+                refused(&desk, |d, _| d.fetch(sector, &mut [], &mut []), with);
                 refused(&desk, |d, _| d.heard(sector), with);
             }
         }
     }
 }
 
+/// Whether the record would be loaded, or would wait.
 #[test]
-fn load_refuses() {
+fn hand_in_refuses() {
     let (record, hum) = (mixed_matrix(), equal_parts(2));
-    for sector in 0..SECTORS {
-        let desk = placed(sector, at(5, 6), 0);
+    let jobs = [at(120, 0), at(0, 0), at(119, 7), at(5, 6), at(121, 0)];
+    for (sector, job) in (0..SECTORS).flat_map(|sector| jobs.map(|job| (sector, job))) {
+        let desk = placed(sector, job, 0);
         let refuse = |record: &[u8], words: usize, with| {
-            let load =
-                |d: &mut Desk, l: &mut Lent| d.load(sector as u32, record, &mut l.area[..words]);
-            refused(&desk, load, with);
+            let hand_in =
+                |d: &mut Desk, l: &mut Lent| d.hand_in(sector as u32, record, &mut l.area[..words]);
+            refused(&desk, hand_in, with);
         };
         refuse(&[], 512, WrongKind);
         refuse(&[&[2], &hum[1..256]].concat(), 511, WrongKind);
@@ -470,12 +495,13 @@ fn run_refuses() {
     }
 }
 
+/// Whether a matrix waits, as for every other sector, or none: nothing is brought in.
 #[test]
 fn fetch_refuses() {
     for sector in 0..SECTORS {
         let refuse = |job, words: usize, bytes: usize, with| {
             let fetch = |d: &mut Desk, l: &mut Lent| {
-                d.fetch(sector as u32, &l.area[..words], &mut l.buffer[..bytes])
+                d.fetch(sector as u32, &mut l.area[..words], &mut l.buffer[..bytes])
             };
             refused(&placed(sector, job, 0), fetch, with);
         };
@@ -526,11 +552,11 @@ fn refused_replies_hold_nothing_else() {
     let hum = equal_parts(2);
     let (area, buffer) = (&mut [7; AREA_WORDS], &mut [7; RESULT_RECORD_BYTES]);
     // SAFETY: pointers and lengths are those of arrays.
-    let (loaded, heard, fetched, set) = unsafe {
+    let (handed_in, heard, fetched, set) = unsafe {
         (
-            ffi::hubqr_desk_load(busy(), 1, hum.as_ptr(), hum.len(), area.as_mut_ptr(), 512),
+            ffi::hubqr_desk_hand_in(busy(), 1, hum.as_ptr(), hum.len(), area.as_mut_ptr(), 512),
             ffi::hubqr_desk_heard(busy(), 8),
-            ffi::hubqr_desk_fetch(busy(), 1, area.as_ptr(), 512, buffer.as_mut_ptr(), 2049),
+            ffi::hubqr_desk_fetch(busy(), 1, area.as_mut_ptr(), 512, buffer.as_mut_ptr(), 2049),
             ffi::hubqr_desk_set_shares(busy(), ffi::Shares { shares: [16; 8] }),
         )
     };
@@ -540,7 +566,7 @@ fn refused_replies_hold_nothing_else() {
         heard: 0,
         job: at(0, 0),
     };
-    assert_eq!(loaded, due);
+    assert_eq!(handed_in, due);
     assert_eq!((heard.desk, heard.number, heard.heard), (busy(), 12, 0));
     assert_eq!((fetched.desk, fetched.number), (busy(), 6));
     assert_eq!((set.desk, set.number), (busy(), 14));

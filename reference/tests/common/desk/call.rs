@@ -3,7 +3,7 @@
 use std::fmt::{self, Display};
 
 use reference::area::AREA_WORDS;
-use reference::desk::SECTORS;
+use reference::desk::{Desk, SECTORS};
 use reference::records::RESULT_RECORD;
 
 use crate::common::twin::hexadecimal;
@@ -13,7 +13,7 @@ use crate::common::twin::hexadecimal;
 pub enum Call {
     Begin,
     SetShares { shares: [u16; SECTORS] },
-    Load { sector: u32, record: Vec<u8> },
+    HandIn { sector: u32, record: Vec<u8> },
     Run { sector: u32, request: u16 },
     Fetch { sector: u32 },
     Heard { sector: u32 },
@@ -24,10 +24,23 @@ impl Call {
         match self {
             Call::Begin => "Begin",
             Call::SetShares { .. } => "Set shares",
-            Call::Load { .. } => "Load",
+            Call::HandIn { .. } => "Hand in",
             Call::Run { .. } => "Run",
             Call::Fetch { .. } => "Fetch",
             Call::Heard { .. } => "Heard",
+        }
+    }
+
+    /// The record that the call loads, if it is accepted: the one that is handed in to a sector whose
+    /// work is done and for which none waits, or the one that waits where a result is fetched.
+    pub fn loads(&self, desk: &Desk) -> Option<Vec<u8>> {
+        let seat = desk.seats.get(self.sector()? as usize)?;
+        match self {
+            Call::HandIn { record, .. } if seat.job.turn >= 120 && seat.waits == 0 => {
+                Some(record.clone())
+            }
+            Call::Fetch { .. } if seat.waits != 0 => Some(seat.record.to_vec()),
+            _ => None,
         }
     }
 
@@ -35,7 +48,7 @@ impl Call {
     pub fn sector(&self) -> Option<u32> {
         match *self {
             Call::Begin | Call::SetShares { .. } => None,
-            Call::Load { sector, .. }
+            Call::HandIn { sector, .. }
             | Call::Run { sector, .. }
             | Call::Fetch { sector }
             | Call::Heard { sector } => Some(sector),
@@ -51,7 +64,7 @@ impl Display for Call {
         }
         match self {
             Call::SetShares { shares } => write!(f, " of {shares:?}"),
-            Call::Load { record, .. } => write!(f, " of {}", hexadecimal(record)),
+            Call::HandIn { record, .. } => write!(f, " of {}", hexadecimal(record)),
             Call::Run { request, .. } => write!(f, " of {request}"),
             _ => Ok(()),
         }
