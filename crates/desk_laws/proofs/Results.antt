@@ -24,7 +24,7 @@ use Rattle.desk_laws.specs.Calls.{Lent, its, Call, fetch, Hub, new, lent
 use Rattle.desk_laws.specs.Ledger.{matrix, Ledger, fresh, noted, ledgerAfter, ledger, EachIts}
 use Rattle.desk_laws.specs.Sectors.{LoadedBy, SectorKept}
 use Rattle.desk_laws.specs.Results.{InStep, Fetched, ResultsAccurate, FetchRepeats}
-use Rattle.desk_laws.proofs.Seats.{Seat, seat, Eight, runSeat, seatGrant, fetchNumber, fetchAnswer, ownAnswer, fetch-number-is, seatLent, lent-own, left-same, own-kind, own-answer, own-loads, eight-after, eight-new}
+use Rattle.desk_laws.proofs.Seats.{Seat, seat, Eight, runSeat, seatGrant, no-grant, fetchNumber, fetchAnswer, ownAnswer, fetch-number-is, seatLent, lent-own, left-same, own-kind, own-answer, own-loads, eight-after, eight-new}
 use Rattle.desk_laws.proofs.Steady.{Any, Steady, steady-after}
 use Rattle.desk_laws.proofs.LastLoad.{Split, Last, quiet, split, last}
 use Rattle.desk_laws.proofs.Ledgers.{same-record, own-loading, own-entry, noted-all, ledger-append}
@@ -105,13 +105,10 @@ record Rests (job : Job) (area : List ℤ) (a : Seat) : Type 0 where
   same-area : a .area ≡ area
 
 module _ (job : Job) (area : List ℤ) (end : job .turn ≡ 120) where
-  no-grant : (a : Seat) (request : ℕ) → a .job ≡ job → seatGrant a request ≡ 0
-  no-grant a request e = let z : a .job .turn ≡ 120 = ap (λ (j : Job). j .turn) e ∙ end in omega (arith, z)
-
   ran-rests : (n request : ℕ) (a : Seat) (lent : Lent) → Rests job area a → Rests job area (runSeat n a (seatGrant a request) lent)
   ran-rests zero request a lent x =
       let l = lentWords (a .area) lent in
-      let o = ap (λ (k : ℕ). runDone (a .job) k l) (no-grant a request (x .same-job)) ∙ none-taken (a .job) l in
+      let o = ap (λ (k : ℕ). runDone (a .job) k l) (no-grant a request (ap (λ (j : Job). j .turn) (x .same-job) ∙ end)) ∙ none-taken (a .job) l in
       record {
         same-job = ap (λ (r : RunOutcome). r .reply .job) o ∙ x .same-job;
         same-area = ap (λ (r : RunOutcome). leftIn false (a .area) lent (r .workspace)) o ∙ left-same (a .area) lent ∙ x .same-area;

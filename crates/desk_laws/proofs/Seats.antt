@@ -106,6 +106,10 @@ fetchNumber a buffer lent = fetchRefusal (a .job) (lentWords (a .area) lent) buf
 abbrev pub seatGrant : Seat → ℕ → ℕ
 seatGrant a request = grant (a .job) (a .left) request
 
+-- a job at its end is granted nothing
+pub no-grant : (a : Seat) (request : ℕ) → a .job .turn ≡ 120 → seatGrant a request ≡ 0
+no-grant a request e = omega (arith, e)
+
 abbrev pub ownNext : Seat → Call → Seat
 ownNext a (handIn j rec lent) = handSeat (handNumber a rec lent) (seatMustWait a) a rec lent
 ownNext a (run j request lent) = runSeat (runNumber a request lent) a (seatGrant a request) lent

@@ -22,7 +22,7 @@ use Rattle.desk.specs.Desk.{unloadedJob}
 use Rattle.desk_laws.specs.Calls.{Lent, Call, run, fetch, heard, new, lentWords, bare, answer, next, after, own, kind, NoLoad, EachNoLoad}
 use Rattle.desk_laws.specs.Unloaded.{ranNothing, NeverLoaded}
 use Rattle.desk_laws.specs.Sectors.{ranAnswer}
-use Rattle.desk_laws.proofs.Seats.{Seat, seat, seatMustWait, runSeat, runNumber, fetchNumber, seatGrant, runAnswer, fetchAnswer, ownAnswer, own-kind, own-answer, eight-after, eight-new}
+use Rattle.desk_laws.proofs.Seats.{Seat, seat, seatMustWait, runSeat, runNumber, fetchNumber, seatGrant, no-grant, runAnswer, fetchAnswer, ownAnswer, own-kind, own-answer, eight-after, eight-new}
 use Rattle.desk_laws.proofs.Steady.{Any, Steady, steady-after}
 
 record Empty (a : Seat) : Type 0 where
@@ -30,17 +30,13 @@ record Empty (a : Seat) : Type 0 where
   heard : a .heard ≡ 0
   waits : a .waits ≡ false
 
--- a job at its end is granted nothing
-no-grant : (a : Seat) (request : ℕ) → a .job ≡ unloadedJob → seatGrant a request ≡ 0
-no-grant a request e = let z : a .job .turn ≡ 120 = ap (λ (j : Job). j .turn) e in omega (arith, z)
-
 -- ---- its calls keep it so
 
 ran-empty : (n request : ℕ) (a : Seat) (lent : Lent) → Empty a → Empty (runSeat n a (seatGrant a request) lent)
 ran-empty zero request a lent e =
     let l = lentWords (a .area) lent in
     record {
-      job = ap (λ (k : ℕ). runDone (a .job) k l .reply .job) (no-grant a request (e .job)) ∙ ap (λ (o : RunOutcome). o .reply .job) (none-taken (a .job) l) ∙ e .job;
+      job = ap (λ (k : ℕ). runDone (a .job) k l .reply .job) (no-grant a request (ap (λ (j : Job). j .turn) (e .job))) ∙ ap (λ (o : RunOutcome). o .reply .job) (none-taken (a .job) l) ∙ e .job;
       heard = e .heard;
       waits = e .waits;
     }
@@ -81,7 +77,7 @@ module _ (a : Seat) (e : Empty a) where
   ran-nothing : (request n : ℕ) (l : List ℤ) → runAnswer n (a .job) (seatGrant a request) l ≡ ranNothing n l
   unfolding runDone
   ran-nothing request zero l =
-      ap (λ (k : ℕ). ranAnswer (runDone (a .job) k l)) (no-grant a request (e .job)) ∙ ap ranAnswer (none-taken (a .job) l) ∙ ap (λ (j : Job). record { number = 0; heard = 0; job = j; count = 0; clamps-r = 0; clamps-q = 0; buffer = []; words = l }) (e .job)
+      ap (λ (k : ℕ). ranAnswer (runDone (a .job) k l)) (no-grant a request (ap (λ (j : Job). j .turn) (e .job))) ∙ ap ranAnswer (none-taken (a .job) l) ∙ ap (λ (j : Job). record { number = 0; heard = 0; job = j; count = 0; clamps-r = 0; clamps-q = 0; buffer = []; words = l }) (e .job)
   ran-nothing request (suc n) l = refl
 
   fetched-nothing : (n : ℕ) (l : List ℤ) (buffer : List ℕ) → fetchAnswer n (a .waits) (a .waiting) l buffer ≡ bare n (fetchBy n l buffer .buffer) l
