@@ -160,11 +160,11 @@ static int at_desks(void)
     struct hubqr_desk desk = hubqr_desk_new();
     for (uint32_t k = 0; k < MATRICES; k++) {
         uint32_t sector = k % HUBQR_SECTORS;
-        struct hubqr_desk_run_reply by_engine = hubqr_desk_run(desk, sector, 0, area, HUBQR_AREA_WORDS);
-        struct hubqr_desk_run_reply in_c = NAME(desk_run)(desk, sector, 0, area, HUBQR_AREA_WORDS);
+        struct hubqr_desk_run_reply by_engine = hubqr_desk_run(HUBQR_OPERATOR, desk, sector, 0, area, HUBQR_AREA_WORDS);
+        struct hubqr_desk_run_reply in_c = NAME(desk_run)(HUBQR_OPERATOR, desk, sector, 0, area, HUBQR_AREA_WORDS);
         if (by_engine.number != HUBQR_ACCEPTED || in_c.number != HUBQR_ACCEPTED
-            || hubqr_desk_set_shares(desk, shares).number != HUBQR_ACCEPTED
-            || NAME(desk_set_shares)(desk, shares).number != HUBQR_ACCEPTED) {
+            || hubqr_desk_set_shares(HUBQR_OPERATOR, desk, shares).number != HUBQR_ACCEPTED
+            || NAME(desk_set_shares)(HUBQR_OPERATOR, desk, shares).number != HUBQR_ACCEPTED) {
             return 0;
         }
     }
@@ -198,18 +198,18 @@ static int at_hand_in(int waiting)
         draw_finished(record);
         desk.jobs[sector] = (struct hubqr_job){waiting ? 0 : HUBQR_TURNS, 0};
         struct hubqr_desk_load_reply by_engine =
-            hubqr_desk_hand_in(desk, sector, record, sizeof record, area, HUBQR_AREA_WORDS);
+            hubqr_desk_hand_in(HUBQR_OPERATOR, desk, sector, record, sizeof record, area, HUBQR_AREA_WORDS);
         struct hubqr_desk_load_reply in_c =
-            NAME(desk_hand_in)(desk, sector, record, sizeof record, area, HUBQR_AREA_WORDS);
+            NAME(desk_hand_in)(HUBQR_OPERATOR, desk, sector, record, sizeof record, area, HUBQR_AREA_WORDS);
         if (by_engine.number != HUBQR_ACCEPTED || memcmp(&by_engine.desk, &in_c.desk, sizeof desk) != 0) {
             return 0;
         }
         desk = by_engine.desk;
         desk.jobs[sector] = (struct hubqr_job){HUBQR_TURNS, 0};
         struct hubqr_desk_reply fetched =
-            hubqr_desk_fetch(desk, sector, area, HUBQR_AREA_WORDS, buffer, sizeof buffer);
+            hubqr_desk_fetch(HUBQR_OPERATOR, desk, sector, area, HUBQR_AREA_WORDS, buffer, sizeof buffer);
         struct hubqr_desk_reply fetched_in_c =
-            NAME(desk_fetch)(desk, sector, area, HUBQR_AREA_WORDS, buffer, sizeof buffer);
+            NAME(desk_fetch)(HUBQR_OPERATOR, desk, sector, area, HUBQR_AREA_WORDS, buffer, sizeof buffer);
         if (fetched.number != HUBQR_ACCEPTED || memcmp(&fetched.desk, &fetched_in_c.desk, sizeof desk) != 0) {
             return 0;
         }

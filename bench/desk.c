@@ -3,14 +3,20 @@
 
 #include <string.h>
 
-struct hubqr_desk_reply NAME(desk_begin)(struct hubqr_desk desk)
+struct hubqr_desk_reply NAME(desk_begin)(uint32_t role, struct hubqr_desk desk)
 {
+    if (role != HUBQR_OPERATOR) {
+        return (struct hubqr_desk_reply){desk, HUBQR_NOT_ALLOWED};
+    }
     memcpy(desk.left, desk.shares, sizeof desk.left);
     return (struct hubqr_desk_reply){desk, HUBQR_ACCEPTED};
 }
 
-struct hubqr_desk_reply NAME(desk_set_shares)(struct hubqr_desk desk, struct hubqr_shares shares)
+struct hubqr_desk_reply NAME(desk_set_shares)(uint32_t role, struct hubqr_desk desk, struct hubqr_shares shares)
 {
+    if (role != HUBQR_OPERATOR) {
+        return (struct hubqr_desk_reply){desk, HUBQR_NOT_ALLOWED};
+    }
     uint32_t total = 0;
     for (int k = 0; k < HUBQR_SECTORS; k++) {
         total += shares.shares[k];
@@ -33,8 +39,11 @@ static int any_heard(const uint8_t *record)
     return 0;
 }
 
-static uint8_t hand_in_refusal(uint32_t sector, const uint8_t *record, size_t record_len, size_t area_len)
+static uint8_t hand_in_refusal(uint32_t role, uint32_t sector, const uint8_t *record, size_t record_len, size_t area_len)
 {
+    if (role != HUBQR_OPERATOR) {
+        return HUBQR_NOT_ALLOWED;
+    }
     if (sector >= HUBQR_SECTORS) {
         return HUBQR_NO_SUCH_SECTOR;
     }
@@ -59,10 +68,10 @@ static void seat(struct hubqr_desk *desk, uint32_t sector, const uint8_t *record
     desk->waits[sector] = 0;
 }
 
-struct hubqr_desk_load_reply NAME(desk_hand_in)(struct hubqr_desk desk, uint32_t sector, const uint8_t *record,
+struct hubqr_desk_load_reply NAME(desk_hand_in)(uint32_t role, struct hubqr_desk desk, uint32_t sector, const uint8_t *record,
                                                 size_t record_len, int32_t *area, size_t area_len)
 {
-    struct hubqr_desk_load_reply reply = {desk, hand_in_refusal(sector, record, record_len, area_len), 0, {0, 0}};
+    struct hubqr_desk_load_reply reply = {desk, hand_in_refusal(role, sector, record, record_len, area_len), 0, {0, 0}};
     if (reply.number != HUBQR_ACCEPTED) {
         return reply;
     }
@@ -77,8 +86,11 @@ struct hubqr_desk_load_reply NAME(desk_hand_in)(struct hubqr_desk desk, uint32_t
     return reply;
 }
 
-static uint8_t run_refusal(const struct hubqr_desk *desk, uint32_t sector, uint16_t request, size_t area_len)
+static uint8_t run_refusal(uint32_t role, const struct hubqr_desk *desk, uint32_t sector, uint16_t request, size_t area_len)
 {
+    if (role != HUBQR_OPERATOR) {
+        return HUBQR_NOT_ALLOWED;
+    }
     if (sector >= HUBQR_SECTORS) {
         return HUBQR_NO_SUCH_SECTOR;
     }
@@ -93,10 +105,10 @@ static uint8_t run_refusal(const struct hubqr_desk *desk, uint32_t sector, uint1
 }
 
 /* The engine's Run stops where the job does, so that what it went on by is what is granted. */
-struct hubqr_desk_run_reply NAME(desk_run)(struct hubqr_desk desk, uint32_t sector, uint16_t request, int32_t *area,
-                                           size_t area_len)
+struct hubqr_desk_run_reply NAME(desk_run)(uint32_t role, struct hubqr_desk desk, uint32_t sector, uint16_t request,
+                                           int32_t *area, size_t area_len)
 {
-    struct hubqr_desk_run_reply reply = {desk, run_refusal(&desk, sector, request, area_len), {0, 0}, 0, 0, 0};
+    struct hubqr_desk_run_reply reply = {desk, run_refusal(role, &desk, sector, request, area_len), {0, 0}, 0, 0, 0};
     if (reply.number != HUBQR_ACCEPTED) {
         return reply;
     }
@@ -111,15 +123,18 @@ struct hubqr_desk_run_reply NAME(desk_run)(struct hubqr_desk desk, uint32_t sect
     return reply;
 }
 
-struct hubqr_desk_reply NAME(desk_fetch)(struct hubqr_desk desk, uint32_t sector, int32_t *area, size_t area_len,
-                                         uint8_t *buffer, size_t buffer_len)
+struct hubqr_desk_reply NAME(desk_fetch)(uint32_t role, struct hubqr_desk desk, uint32_t sector, int32_t *area,
+                                         size_t area_len, uint8_t *buffer, size_t buffer_len)
 {
+    if (role != HUBQR_FITTER && role != HUBQR_OPERATOR) {
+        return (struct hubqr_desk_reply){desk, HUBQR_NOT_ALLOWED};
+    }
     struct hubqr_desk_reply reply = {desk, HUBQR_NO_SUCH_SECTOR};
     if (sector >= HUBQR_SECTORS) {
         return reply;
     }
     reply.number = hubqr_fetch(desk.jobs[sector], area, area_len, buffer, buffer_len);
-    if (reply.number == HUBQR_ACCEPTED && desk.waits[sector] != 0) {
+    if (reply.number == HUBQR_ACCEPTED && role == HUBQR_OPERATOR && desk.waits[sector] != 0) {
         seat(&reply.desk, sector, desk.records + HUBQR_MATRIX_RECORD_BYTES * sector, area, area_len);
     }
     return reply;

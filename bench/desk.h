@@ -9,13 +9,13 @@
 #include "hubqr.h"
 #include "name.h"
 
-struct hubqr_desk_reply NAME(desk_begin)(struct hubqr_desk desk);
-struct hubqr_desk_reply NAME(desk_set_shares)(struct hubqr_desk desk, struct hubqr_shares shares);
-struct hubqr_desk_load_reply NAME(desk_hand_in)(struct hubqr_desk desk, uint32_t sector, const uint8_t *record,
+struct hubqr_desk_reply NAME(desk_begin)(uint32_t role, struct hubqr_desk desk);
+struct hubqr_desk_reply NAME(desk_set_shares)(uint32_t role, struct hubqr_desk desk, struct hubqr_shares shares);
+struct hubqr_desk_load_reply NAME(desk_hand_in)(uint32_t role, struct hubqr_desk desk, uint32_t sector, const uint8_t *record,
                                                 size_t record_len, int32_t *area, size_t area_len);
-struct hubqr_desk_run_reply NAME(desk_run)(struct hubqr_desk desk, uint32_t sector, uint16_t request, int32_t *area,
-                                           size_t area_len);
-struct hubqr_desk_reply NAME(desk_fetch)(struct hubqr_desk desk, uint32_t sector, int32_t *area, size_t area_len,
-                                         uint8_t *buffer, size_t buffer_len);
+struct hubqr_desk_run_reply NAME(desk_run)(uint32_t role, struct hubqr_desk desk, uint32_t sector, uint16_t request,
+                                           int32_t *area, size_t area_len);
+struct hubqr_desk_reply NAME(desk_fetch)(uint32_t role, struct hubqr_desk desk, uint32_t sector, int32_t *area,
+                                         size_t area_len, uint8_t *buffer, size_t buffer_len);
 
 #endif

@@ -65,23 +65,26 @@ CALL(add, reply.add = hubqr_add_snapshot(samples, sums), reply.add.number)
 CALL(write_matrix, reply.number = hubqr_write_matrix(reply.add.sums, record, sizeof record), reply.number)
 CALL(weights, reply.weights = hubqr_weights(result, sizeof result, samples), reply.weights.number)
 CALL(desk_new, desk = hubqr_desk_new(), HUBQR_ACCEPTED)
-CALL(desk_set_shares, reply.desk = hubqr_desk_set_shares(desk, shares), reply.desk.number)
-CALL(desk_begin, reply.desk = hubqr_desk_begin(reply.desk.desk), reply.desk.number)
+CALL(desk_set_shares, reply.desk = hubqr_desk_set_shares(HUBQR_OPERATOR, desk, shares), reply.desk.number)
+CALL(desk_begin, reply.desk = hubqr_desk_begin(HUBQR_OPERATOR, reply.desk.desk), reply.desk.number)
 CALL(desk_load,
-     reply.desk_load = hubqr_desk_hand_in(reply.desk.desk, 7, record, sizeof record, area, HUBQR_AREA_WORDS),
+     reply.desk_load =
+         hubqr_desk_hand_in(HUBQR_OPERATOR, reply.desk.desk, 7, record, sizeof record, area, HUBQR_AREA_WORDS),
      reply.desk_load.number)
 CALL(desk_wait,
-     reply.desk_load = hubqr_desk_hand_in(reply.desk_load.desk, 7, record, sizeof record, area, HUBQR_AREA_WORDS),
+     reply.desk_load =
+         hubqr_desk_hand_in(HUBQR_OPERATOR, reply.desk_load.desk, 7, record, sizeof record, area, HUBQR_AREA_WORDS),
      reply.desk_load.number)
-CALL(desk_run, reply.desk_run = hubqr_desk_run(reply.desk_load.desk, 7, HUBQR_TURNS, area, HUBQR_AREA_WORDS),
+CALL(desk_run,
+     reply.desk_run = hubqr_desk_run(HUBQR_OPERATOR, reply.desk_load.desk, 7, HUBQR_TURNS, area, HUBQR_AREA_WORDS),
      reply.desk_run.number)
 CALL(desk_fetch,
-     reply.desk = hubqr_desk_fetch(reply.desk_run.desk, 6, area, HUBQR_AREA_WORDS, result, sizeof result),
+     reply.desk = hubqr_desk_fetch(HUBQR_OPERATOR, reply.desk_run.desk, 6, area, HUBQR_AREA_WORDS, result, sizeof result),
      reply.desk.number)
 CALL(desk_next,
-     reply.desk = hubqr_desk_fetch(reply.desk_run.desk, 7, area, HUBQR_AREA_WORDS, result, sizeof result),
+     reply.desk = hubqr_desk_fetch(HUBQR_OPERATOR, reply.desk_run.desk, 7, area, HUBQR_AREA_WORDS, result, sizeof result),
      reply.desk.number)
-CALL(desk_heard, reply.desk_heard = hubqr_desk_heard(desk, 7), reply.desk_heard.number)
+CALL(desk_heard, reply.desk_heard = hubqr_desk_heard(HUBQR_OPERATOR, desk, 7), reply.desk_heard.number)
 
 /* Each call, in a sequence in which it is accepted. Of the two sectors that fetch a result from the area one has none waiting. */
 static const struct {

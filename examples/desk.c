@@ -3,6 +3,8 @@
  * of them in round after round until their jobs are finished, and compares each result, byte for byte, with what Whole makes of
  * the same record. One sector requests all that it can and more, and the others are served all the same. Another one has its
  * next matrix early: it is handed in while the first is worked, waits in the desk, and is brought in when the first is fetched.
+ * All this is done for the operator. A viewer and a fitter look at the first result of that sector before the operator has
+ * fetched it: the viewer gets the heard byte and no result, and the fitter the result, which leaves the next matrix waiting.
  *
  *   cc -std=c11 -Iinclude examples/desk.c build/libhubqr.a -o build/desk
  *   build/desk [RECORD...]
@@ -83,7 +85,7 @@ static void print_refusal(uint8_t number)
 /* Sets the shares, which count from the next round on. If they are refused, the desk keeps those that it has. */
 static void set_shares(struct hub *hub, struct hubqr_shares shares)
 {
-    uint8_t number = hubqr_desk_set_shares_at(&hub->desk, shares);
+    uint8_t number = hubqr_desk_set_shares_at(HUBQR_OPERATOR, &hub->desk, shares);
     printf("shares");
     for (uint32_t k = 0; k < HUBQR_SECTORS; k++) {
         printf(" %u", (unsigned)shares.shares[k]);
@@ -103,8 +105,8 @@ static void set_shares(struct hub *hub, struct hubqr_shares shares)
 static void hand_in(struct hub *hub, uint32_t k, const struct matrix *matrix)
 {
     struct sector *sector = &hub->sectors[k];
-    struct hubqr_desk_load_reply reply =
-        hubqr_desk_hand_in_at(&hub->desk, k, matrix->record, matrix->length, sector->area, HUBQR_AREA_WORDS);
+    struct hubqr_desk_load_reply reply = hubqr_desk_hand_in_at(HUBQR_OPERATOR, &hub->desk, k, matrix->record, matrix->length,
+                                                               sector->area, HUBQR_AREA_WORDS);
     printf("sector %lu: %s: ", (unsigned long)k, matrix->path);
     if (reply.number != HUBQR_ACCEPTED) {
         print_refusal(reply.number);
@@ -117,6 +119,11 @@ static void hand_in(struct hub *hub, uint32_t k, const struct matrix *matrix)
     }
 }
 
+static struct hubqr_desk_run_reply run(struct hub *hub, uint32_t k, uint16_t request)
+{
+    return hubqr_desk_run_at(HUBQR_OPERATOR, &hub->desk, k, request, hub->sectors[k].area, HUBQR_AREA_WORDS);
+}
+
 /*
  * Requests turns for each sector that is not finished, one after the other, and prints what is granted to each. The greedy one
  * gets its share, as the others do, and is refused when it requests more: none of that is taken from those that come after it.
@@ -126,23 +133,27 @@ static void serve_round(struct hub *hub, unsigned round)
     uint8_t refused = HUBQR_ACCEPTED;
     printf("%5u", round);
     for (uint32_t k = 0; k < HUBQR_SECTORS; k++) {
-        struct sector *sector = &hub->sectors[k];
         if (hub->desk.jobs[k].turn == HUBQR_TURNS) {
             printf("  %3s", "-");
             continue;
         }
         uint16_t request = k == GREEDY ? HUBQR_ROUND_TURNS : hub->desk.shares[k];
-        struct hubqr_desk_run_reply ran = hubqr_desk_run_at(&hub->desk, k, request, sector->area, HUBQR_AREA_WORDS);
-        printf("  %3lu", (unsigned long)ran.count);
-        sector->rounds++;
+        printf("  %3lu", (unsigned long)run(hub, k, request).count);
+        hub->sectors[k].rounds++;
         if (k == GREEDY) {
-            refused = hubqr_desk_run_at(&hub->desk, k, request, sector->area, HUBQR_AREA_WORDS).number;
+            refused = run(hub, k, request).number;
         }
     }
     if (refused != HUBQR_ACCEPTED) {
         printf("  %7u", (unsigned)refused);
     }
     printf("\n");
+}
+
+/* Begins a round. Returns whether that was accepted. */
+static int begin(struct hub *hub)
+{
+    return hubqr_desk_begin_at(HUBQR_OPERATOR, &hub->desk) == HUBQR_ACCEPTED;
 }
 
 static int all_finished(const struct hubqr_desk *desk)
@@ -154,16 +165,23 @@ static int all_finished(const struct hubqr_desk *desk)
     return finished;
 }
 
+/* Fetches the result of a sector for a role. Returns the number. */
+static uint8_t fetch(struct hub *hub, enum hubqr_role role, uint32_t k, uint8_t result[HUBQR_RESULT_RECORD_BYTES])
+{
+    int32_t *area = hub->sectors[k].area;
+    return hubqr_desk_fetch_at(role, &hub->desk, k, area, HUBQR_AREA_WORDS, result, HUBQR_RESULT_RECORD_BYTES);
+}
+
 /* Whether the result that is fetched for a sector is the one that Whole makes of its record. */
-static int fetched_as_whole(struct hub *hub, uint32_t k)
+static int fetched_as_whole(struct hub *hub, enum hubqr_role role, uint32_t k)
 {
     static int32_t area[HUBQR_AREA_WORDS];
     static uint8_t fetched[HUBQR_RESULT_RECORD_BYTES];
     static uint8_t expected[HUBQR_RESULT_RECORD_BYTES];
-    struct sector *sector = &hub->sectors[k];
-    uint8_t number = hubqr_desk_fetch_at(&hub->desk, k, sector->area, HUBQR_AREA_WORDS, fetched, sizeof fetched);
+    const struct matrix *matrix = &hub->sectors[k].matrix;
+    uint8_t number = fetch(hub, role, k, fetched);
     struct hubqr_whole_reply whole =
-        hubqr_whole(sector->matrix.record, sector->matrix.length, area, HUBQR_AREA_WORDS, expected, sizeof expected);
+        hubqr_whole(matrix->record, matrix->length, area, HUBQR_AREA_WORDS, expected, sizeof expected);
     return number == HUBQR_ACCEPTED && whole.number == HUBQR_ACCEPTED && memcmp(fetched, expected, sizeof expected) == 0;
 }
 
@@ -176,24 +194,60 @@ static int print_result(struct hub *hub, uint32_t k)
     unsigned rounds = hub->sectors[k].rounds, share = hub->desk.shares[k], most = (HUBQR_TURNS + share - 1) / share;
     printf("heard byte %02X, %lu turns made, ", (unsigned)hub->desk.heard[k], (unsigned long)hub->desk.jobs[k].made);
     printf("share %u, finished in %u rounds of at most %u, ", share, rounds, most);
-    int same = fetched_as_whole(hub, k);
+    int same = fetched_as_whole(hub, HUBQR_OPERATOR, k);
     printf("the result %s the one that Whole makes\n", same ? "is" : "is not");
     return same && rounds <= most;
 }
 
-/* Fetches the first result of the sector whose next matrix waits, once it is finished. Returns whether it is right. */
+/*
+ * Prints what a viewer gets of the sector whose next matrix waits: its heard byte, and not its result. Returns whether the result
+ * is refused.
+ */
+static int print_viewer(struct hub *hub)
+{
+    static uint8_t result[HUBQR_RESULT_RECORD_BYTES];
+    struct hubqr_desk_heard_reply reply = hubqr_desk_heard_at(HUBQR_VIEWER, &hub->desk, EARLY);
+    printf("viewer of sector %d: heard byte %02X, and the result is ", EARLY, (unsigned)reply.heard);
+    uint8_t number = fetch(hub, HUBQR_VIEWER, EARLY, result);
+    if (number == HUBQR_ACCEPTED) {
+        printf("fetched\n");
+    } else {
+        print_refusal(number);
+    }
+    return number == HUBQR_NOT_ALLOWED;
+}
+
+/*
+ * Prints what a fitter gets of it: the result, as often as it likes. Returns whether it is right, and the next matrix goes on
+ * waiting.
+ */
+static int print_fitter(struct hub *hub)
+{
+    int same = fetched_as_whole(hub, HUBQR_FITTER, EARLY) && fetched_as_whole(hub, HUBQR_FITTER, EARLY);
+    printf("fitter of sector %d: the result, fetched twice, %s the one that Whole makes, ", EARLY, same ? "is" : "is not");
+    int waits = hub->desk.waits[EARLY];
+    printf("and the next matrix %s waiting\n", waits ? "goes on" : "ends");
+    return same && waits;
+}
+
+/*
+ * Fetches the first result of the sector whose next matrix waits, once it is finished: for a viewer, for a fitter and then for
+ * the operator, whose Fetch brings that matrix in. Returns whether all of it is right.
+ */
 static int fetch_early(struct hub *hub)
 {
     struct sector *sector = &hub->sectors[EARLY];
     if (!hub->desk.waits[EARLY] || hub->desk.jobs[EARLY].turn < HUBQR_TURNS) {
         return 1;
     }
+    int viewed = print_viewer(hub);
+    int fitted = print_fitter(hub);
     printf("sector %d: ", EARLY);
     int right = print_result(hub, EARLY);
     sector->matrix = hub->next;
     sector->rounds = 0;
     printf("sector %d: %s: brought in, heard byte %02X\n", EARLY, hub->next.path, (unsigned)hub->desk.heard[EARLY]);
-    return right;
+    return viewed && fitted && right;
 }
 
 /*
@@ -206,7 +260,7 @@ static int serve(struct hub *hub)
     printf("\nnumber %d: %s\n", HUBQR_COUNT_USED_UP, hubqr_refusal_words(HUBQR_COUNT_USED_UP));
     printf("turns granted to sectors 0 to 7, and what sector %d is refused with when it requests more\n", GREEDY);
     printf("round    0    1    2    3    4    5    6    7  refused\n");
-    for (unsigned round = 1; !all_finished(&hub->desk) && hubqr_desk_begin_at(&hub->desk) == HUBQR_ACCEPTED; round++) {
+    for (unsigned round = 1; !all_finished(&hub->desk) && begin(hub); round++) {
         if (round == EARLY_ROUND) {
             hand_in(hub, EARLY, &hub->next);
         }
@@ -225,7 +279,7 @@ static int print_results(struct hub *hub)
 {
     int right = 1;
     for (uint32_t k = 0; k <= HUBQR_SECTORS; k++) {
-        struct hubqr_desk_heard_reply reply = hubqr_desk_heard_at(&hub->desk, k);
+        struct hubqr_desk_heard_reply reply = hubqr_desk_heard_at(HUBQR_OPERATOR, &hub->desk, k);
         printf("sector %lu: ", (unsigned long)k);
         if (reply.number != HUBQR_ACCEPTED) {
             print_refusal(reply.number);

@@ -1,7 +1,7 @@
 #!/bin/sh
 # Runs the C and the Rust program that serve eight sectors by a desk, from the top of the repository, and compares what they print and their exit
-# status, the turns that are granted with those that the rule gives, the rounds that a sector takes with those that its share promises, and when the
-# matrix that comes early is loaded.
+# status, the turns that are granted with those that the rule gives, the rounds that a sector takes with those that its share promises, when the
+# matrix that comes early is loaded, and what a viewer and a fitter get before that.
 # Usage: examples/test-desk.sh C_PROGRAM RUST_PROGRAM
 set -u
 export LC_ALL=C
@@ -97,14 +97,17 @@ serves() {
 }
 
 # follows_round NEXT: what is printed of the matrix that comes early stands where it should: that it waits, is loaded or is refused behind round 1,
-# and that it is brought in behind the first result of its sector, which stands behind the round that finishes the job.
+# and that it is brought in behind the first result of its sector, which stands behind the round that finishes the job, and behind what a viewer and
+# a fitter get of it, who bring nothing in.
 follows_round() {
     said="$(awk -v early="$early" '
     / refused$/ { table = 1 }
     table && /^$/ { exit }
     table && /^ *[0-9]/ { row = $1 }
-    table && $0 ~ "^sector " early ": " {
+    table && $0 ~ "^(sector|(viewer|fitter) of sector) " early ": " {
         what = $0
+        sub(/^viewer .*/, "viewer", what)
+        sub(/^fitter .*/, "fitter", what)
         sub(/.*: brought in, .*/, "brought in", what)
         sub(/.*: (waits|loaded), .*/, "handed in", what)
         sub(/.*: refused with .*/, "refused", what)
@@ -113,7 +116,7 @@ follows_round() {
         separator = ", "
     }' "$scratch/c.out")"
     case $1 in
-    waits) expected='handed in after 1, result after 4, brought in after 4' ;;
+    waits) expected='handed in after 1, viewer after 4, fitter after 4, result after 4, brought in after 4' ;;
     loaded) expected='handed in after 1' ;;
     refused) expected='refused after 1' ;;
     never) expected='' ;;
@@ -138,6 +141,8 @@ check 0 'sector 3: heard byte 01, 0 turns made, share 10, finished in 12 rounds 
 # The heard byte changes when the matrix that waits is brought in, and with the result of the first it is that of the first.
 check 0 "sector 0: $records/hermitian.bin: loaded, heard byte FF"
 check 0 "sector 0: $records/loose-plug.bin: waits, heard byte FF and turn number 35 as they stand"
+check 0 'viewer of sector 0: heard byte FF, and the result is refused with number 15: the call is not allowed to this role'
+check 0 'fitter of sector 0: the result, fetched twice, is the one that Whole makes, and the next matrix goes on waiting'
 check 0 'sector 0: heard byte FF, 120 turns made, share 35, finished in 4 rounds of at most 4, the result is the one that Whole makes'
 check 0 "sector 0: $records/loose-plug.bin: brought in, heard byte DF"
 check 0 'sector 0: heard byte DF, 120 turns made, share 35, finished in 4 rounds of at most 4, the result is the one that Whole makes'

@@ -13,7 +13,9 @@
  *   For weights:     hubqr_weights.h, which this header includes as well, works out from a result record what the antennas are
  *                    weighted with.
  *   For sectors:     hubqr_desk.h, which this header includes too, serves eight sectors, each with an area and a share of its
- *                    own of the turns of a round, 120 at most. The next matrix of a sector may be handed in early.
+ *                    own of the turns of a round, 120 at most. The next matrix of a sector may be handed in early. Each call is
+ *                    made for a role: a viewer is answered the heard byte and nothing else, a fitter gets the result record too,
+ *                    and the operator may make every call.
  *
  * Records (numbers are two's complement, high byte first)
  *   Matrix record, 257 bytes:    HUBQR_KIND_MATRIX, then 64 elements row by row, each a 16-bit real part and a 16-bit imaginary

@@ -12,7 +12,7 @@
 
 /* The version of these headers. */
 #define HUBQR_VERSION_MAJOR 0
-#define HUBQR_VERSION_MINOR 10
+#define HUBQR_VERSION_MINOR 11
 #define HUBQR_VERSION_PATCH 0
 #define HUBQR_VERSION (10000 * HUBQR_VERSION_MAJOR + 100 * HUBQR_VERSION_MINOR + HUBQR_VERSION_PATCH)
 
@@ -88,7 +88,8 @@ struct hubqr_job {
     X(HUBQR_ZERO_DIAGONAL, 11, "one of R's 16 diagonal words is 0")                                                            \
     X(HUBQR_NO_SUCH_SECTOR, 12, "the sector is above 7")                                                                       \
     X(HUBQR_COUNT_USED_UP, 13, "turns are requested for an unfinished job, and the sector has none left in the round")         \
-    X(HUBQR_SHARES_EXCEED_ROUND, 14, "the shares are above 120 in total")
+    X(HUBQR_SHARES_EXCEED_ROUND, 14, "the shares are above 120 in total")                                                      \
+    X(HUBQR_NOT_ALLOWED, 15, "the call is not allowed to this role")
 
 /* What a reply's `number` can be. */
 enum hubqr_refusal {

@@ -3,6 +3,7 @@
 #   functions   the archive's symbols; name, parameters and result in host/rust/src/ffi.rs and of the exports in crates/*/src
 #   structs     fields, their order, types and lengths in host/rust/src/ffi.rs, and in crates/*/src where they are marked #[repr(C)]
 #   refusals    number, name and sentence in host/rust/src/refusal.rs; the numbers in crates/refusals/src
+#   roles       name and number in host/rust/src/role.rs and in crates/desk/src
 #   version     hubqr_version in crates/*/src, Cargo.toml, host/rust/Cargo.toml
 # tools/face/*.awk read the sources into lines of a key (`function hubqr_load`, `struct load_reply`, ..), a tab and the content.
 # Prints what differs and ends with 1, or prints how many declarations agree. HUBQR_LIB_DIR names another folder with the archive.
@@ -25,6 +26,12 @@ symbols() {
 # numbers: the refusal numbers that Rattle code on standard input names; 0 is none.
 numbers() {
     awk '/^ *pub const [A-Z0-9_]+: u8 = [1-9][0-9]*;/ { sub(/^[^=]*= /, ""); sub(/;.*/, ""); printf "number %s\t\n", $0 }'
+}
+
+# roles: the roles and their numbers, in the Rust enum or the Rattle constants on standard input.
+roles() {
+    sed -n -e 's/^pub const \([A-Z]*\): u32 = \([0-9]*\);$/\1 \2/p' -e 's/^    \([A-Z][a-z]*\) = \([0-9]*\),$/\1 \2/p' |
+        awk '{ printf "role %s\t%s\n", toupper($1), $2 }'
 }
 
 # cargo_version FILE: its first version, as the number that hubqr_version answers.
@@ -69,6 +76,8 @@ rattle crates >"$scratch/rattle"
     read_by rust "$scratch/rattle" | compare 'crates/*/src' function struct version
     read_by refusals host/rust/src/refusal.rs | compare host/rust/src/refusal.rs refusal
     rattle crates/refusals | numbers | compare crates/refusals/src number
+    roles <host/rust/src/role.rs | compare host/rust/src/role.rs role
+    rattle crates/desk | roles | compare crates/desk/src role
     for file in Cargo.toml host/rust/Cargo.toml; do
         cargo_version "$file" | compare "$file" version
     done
@@ -77,4 +86,4 @@ if [ -s "$scratch/differences" ]; then
     cat "$scratch/differences"
     exit 1
 fi
-awk '/^(function|struct|refusal|version)/ { n++ } END { printf "face: %d declarations agree\n", n }' "$scratch/headers"
+awk '/^(function|struct|refusal|role|version)/ { n++ } END { printf "face: %d declarations agree\n", n }' "$scratch/headers"

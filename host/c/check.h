@@ -57,5 +57,6 @@ void test_weights(void);
 void test_desk(void);
 void test_hand_in(void);
 void test_desk_refused(void);
+void test_roles(void);
 
 #endif

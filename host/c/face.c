@@ -35,6 +35,7 @@ static void test_words(void)
     CHECK("words of 13", strcmp(hubqr_refusal_words(HUBQR_COUNT_USED_UP),
                                 "turns are requested for an unfinished job, and the sector has none left in the round") == 0);
     CHECK("words of 14", strcmp(hubqr_refusal_words(HUBQR_SHARES_EXCEED_ROUND), "the shares are above 120 in total") == 0);
+    CHECK("words of 15", strcmp(hubqr_refusal_words(HUBQR_NOT_ALLOWED), "the call is not allowed to this role") == 0);
     for (int k = 0; k < REFUSALS; k++) {
         CHECK("refusals are numbered from 1 on", numbers[k] == k + 1);
         for (int other = 0; other < k; other++) {

@@ -135,22 +135,25 @@ static void test_all_sectors(void)
 static void refuse_hand_in(const char *what, uint32_t sector, const uint8_t *record, size_t length, size_t words, uint8_t number)
 {
     struct hubqr_desk kept = desk;
-    struct hubqr_desk_load_reply by_value = hubqr_desk_hand_in(desk, sector, record, length, areas[sector], words);
+    int32_t *lent = areas[sector];
+    struct hubqr_desk_load_reply by_value = hubqr_desk_hand_in(HUBQR_OPERATOR, desk, sector, record, length, lent, words);
     CHECK(what, by_value.number == number && same_desk(&by_value.desk, &kept));
-    CHECK(what, hubqr_desk_hand_in_at(&desk, sector, record, length, areas[sector], words).number == number);
+    CHECK(what, hubqr_desk_hand_in_at(HUBQR_OPERATOR, &desk, sector, record, length, lent, words).number == number);
     CHECK(what, same_desk(&desk, &kept) && memcmp(areas[sector], alone[sector], sizeof areas[sector]) == 0);
 }
 
-/* A Fetch must be refused with this number, brings nothing in and leaves area and buffer as they were. */
+/* A Fetch, a fitter's and the operator's, must be refused with this number, brings nothing in and leaves area and buffer. */
 static void refuse_fetch(const char *what, uint32_t sector, size_t words, size_t bytes, uint8_t number)
 {
     struct hubqr_desk kept = desk;
     scribble();
     remember();
-    struct hubqr_desk_reply by_value = hubqr_desk_fetch(desk, sector, areas[sector], words, buffer, bytes);
-    CHECK(what, by_value.number == number && same_desk(&by_value.desk, &kept));
-    CHECK(what, hubqr_desk_fetch_at(&desk, sector, areas[sector], words, buffer, bytes) == number);
-    CHECK(what, same_desk(&desk, &kept) && memcmp(areas[sector], alone[sector], sizeof areas[sector]) == 0 && unchanged());
+    for (uint32_t role = HUBQR_FITTER; role <= HUBQR_OPERATOR; role++) {
+        struct hubqr_desk_reply by_value = hubqr_desk_fetch(role, desk, sector, areas[sector], words, buffer, bytes);
+        CHECK(what, by_value.number == number && same_desk(&by_value.desk, &kept));
+        CHECK(what, hubqr_desk_fetch_at(role, &desk, sector, areas[sector], words, buffer, bytes) == number);
+        CHECK(what, same_desk(&desk, &kept) && memcmp(areas[sector], alone[sector], sizeof areas[sector]) == 0 && unchanged());
+    }
 }
 
 /* Refused hand-ins and Fetches between the accepted ones: what waits is brought in by the first Fetch that is accepted. */
@@ -248,7 +251,7 @@ static void test_made_up_jobs(void)
         desk.jobs[6] = unfinished[n];
         let_wait("a matrix behind a job that is none", 6, 6);
         refuse_fetch("it cannot be fetched", 6, 512, 2049, HUBQR_NO_SUCH_JOB);
-        CHECK("nor run", hubqr_desk_run_at(&desk, 6, 1, areas[6], AREA_LENT).number == HUBQR_NO_SUCH_JOB);
+        CHECK("nor run", hubqr_desk_run_at(HUBQR_OPERATOR, &desk, 6, 1, areas[6], AREA_LENT).number == HUBQR_NO_SUCH_JOB);
         let_wait("the next one waits, too", 6, 5);
         desk.jobs[6] = (struct hubqr_job){120, 0};
         memset(areas[6], 0, sizeof areas[6]);
@@ -257,35 +260,44 @@ static void test_made_up_jobs(void)
     }
 }
 
+/* Fetch into a block of exactly the needed size, which holds nothing before. */
+static void fetch_exact(uint32_t role, struct hubqr_desk *kept, int32_t *words, const uint8_t due[HUBQR_RESULT_RECORD_BYTES])
+{
+    uint8_t *result = malloc(HUBQR_RESULT_RECORD_BYTES);
+    CHECK("memory for a result", result != NULL);
+    CHECK("Fetch", hubqr_desk_fetch_at(role, kept, 7, words, HUBQR_AREA_WORDS, result, HUBQR_RESULT_RECORD_BYTES) == 0);
+    CHECK("same record as in longer lent memory", memcmp(result, due, HUBQR_RESULT_RECORD_BYTES) == 0);
+    free(result);
+}
+
 /*
  * Blocks of exactly the needed sizes on the heap, where valgrind sees a step past their end. The record is gone before the matrix
- * is brought in, since the desk has it by value.
+ * is brought in, since the desk has it by value. A fitter has each result before the operator.
  */
 static void test_exact_blocks(void)
 {
     struct hubqr_desk *kept = malloc(sizeof *kept);
-    uint8_t *record = malloc(HUBQR_MATRIX_RECORD_BYTES), *result = malloc(HUBQR_RESULT_RECORD_BYTES);
+    uint8_t *record = malloc(HUBQR_MATRIX_RECORD_BYTES), due[HUBQR_RESULT_RECORD_BYTES];
     int32_t *words = malloc(HUBQR_AREA_WORDS * sizeof *words);
-    uint8_t due[HUBQR_RESULT_RECORD_BYTES];
-    CHECK("memory for exact sizes", kept && record && result && words);
+    uint32_t role = HUBQR_OPERATOR;
+    CHECK("memory for exact sizes", kept && record && words);
     *kept = hubqr_desk_new();
-    CHECK("shares", hubqr_desk_set_shares_at(kept, (struct hubqr_shares){{0, 0, 0, 0, 0, 0, 0, 120}}) == 0);
+    CHECK("shares", hubqr_desk_set_shares_at(role, kept, (struct hubqr_shares){{0, 0, 0, 0, 0, 0, 0, 120}}) == 0);
     for (uint32_t matrix = 7; matrix >= 6; matrix--) {
         memcpy(record, records[matrix], HUBQR_MATRIX_RECORD_BYTES);
         CHECK("hand-in",
-              hubqr_desk_hand_in_at(kept, 7, record, HUBQR_MATRIX_RECORD_BYTES, words, HUBQR_AREA_WORDS).number == 0);
+              hubqr_desk_hand_in_at(role, kept, 7, record, HUBQR_MATRIX_RECORD_BYTES, words, HUBQR_AREA_WORDS).number == 0);
     }
     free(record);
     for (uint32_t matrix = 7; matrix >= 6; matrix--) {
-        CHECK("heard", hubqr_desk_heard_at(kept, 7).heard == heard_in(matrix));
-        CHECK("a round", hubqr_desk_begin_at(kept) == 0);
-        CHECK("Run", hubqr_desk_run_at(kept, 7, 120, words, HUBQR_AREA_WORDS).count == 120);
-        CHECK("Fetch", hubqr_desk_fetch_at(kept, 7, words, HUBQR_AREA_WORDS, result, HUBQR_RESULT_RECORD_BYTES) == 0);
+        CHECK("heard", hubqr_desk_heard_at(role, kept, 7).heard == heard_in(matrix));
+        CHECK("a round", hubqr_desk_begin_at(role, kept) == 0);
+        CHECK("Run", hubqr_desk_run_at(role, kept, 7, 120, words, HUBQR_AREA_WORDS).count == 120);
         whole_of("Whole", matrix, due);
-        CHECK("same record as in longer lent memory", memcmp(result, due, sizeof due) == 0);
+        fetch_exact(HUBQR_FITTER, kept, words, due);
+        fetch_exact(role, kept, words, due);
     }
     free(kept);
-    free(result);
     free(words);
 }
 

@@ -1,4 +1,7 @@
-/* Sizes and places of all structs in the headers, as the archive was compiled with them, for the tests in C and in C++. */
+/*
+ * Sizes and places of all structs in the headers, and the numbers of the roles, as the archive was compiled with them, for the
+ * tests in C and in C++.
+ */
 #ifndef LAYOUT_H
 #define LAYOUT_H
 
@@ -57,6 +60,11 @@ PLACE(hubqr_weight, im, 8);
 SIZE(hubqr_weights_reply, 136);
 PLACE(hubqr_weights_reply, number, 0);
 PLACE(hubqr_weights_reply, weights, 8);
+
+static_assert(HUBQR_VIEWER == 0, "the viewer's number");
+static_assert(HUBQR_FITTER == 1, "the fitter's number");
+static_assert(HUBQR_OPERATOR == 2, "the operator's number");
+static_assert(HUBQR_NOT_ALLOWED == 15, "the number of a call that is not allowed to a role");
 
 SIZE(hubqr_desk, 2168);
 PLACE(hubqr_desk, jobs, 0);

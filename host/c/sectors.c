@@ -48,9 +48,12 @@ void place(uint32_t sector, uint32_t turn, uint32_t made, uint16_t left)
 void heard_is(const char *what, uint32_t sector, uint8_t heard)
 {
     struct hubqr_desk kept = desk;
-    struct hubqr_desk_heard_reply by_value = hubqr_desk_heard(desk, sector), by_pointer = hubqr_desk_heard_at(&desk, sector);
-    CHECK(what, by_value.number == HUBQR_ACCEPTED && by_value.heard == heard && same_desk(&by_value.desk, &kept));
-    CHECK(what, by_pointer.number == HUBQR_ACCEPTED && by_pointer.heard == heard && same_desk(&by_pointer.desk, &kept));
+    for (uint32_t role = HUBQR_VIEWER; role <= HUBQR_OPERATOR; role++) {
+        struct hubqr_desk_heard_reply by_value = hubqr_desk_heard(role, desk, sector);
+        struct hubqr_desk_heard_reply by_pointer = hubqr_desk_heard_at(role, &desk, sector);
+        CHECK(what, by_value.number == HUBQR_ACCEPTED && by_value.heard == heard && same_desk(&by_value.desk, &kept));
+        CHECK(what, by_pointer.number == HUBQR_ACCEPTED && by_pointer.heard == heard && same_desk(&by_pointer.desk, &kept));
+    }
     CHECK(what, same_desk(&desk, &kept));
 }
 
@@ -58,18 +61,18 @@ void begin(const char *what)
 {
     struct hubqr_desk due = desk;
     memcpy(due.left, desk.shares, sizeof due.left);
-    struct hubqr_desk_reply by_value = hubqr_desk_begin(desk);
+    struct hubqr_desk_reply by_value = hubqr_desk_begin(HUBQR_OPERATOR, desk);
     CHECK(what, by_value.number == HUBQR_ACCEPTED && same_desk(&by_value.desk, &due));
-    CHECK(what, hubqr_desk_begin_at(&desk) == HUBQR_ACCEPTED && same_desk(&desk, &due));
+    CHECK(what, hubqr_desk_begin_at(HUBQR_OPERATOR, &desk) == HUBQR_ACCEPTED && same_desk(&desk, &due));
 }
 
 void set_shares(const char *what, struct hubqr_shares shares)
 {
     struct hubqr_desk due = desk;
     memcpy(due.shares, shares.shares, sizeof due.shares);
-    struct hubqr_desk_reply by_value = hubqr_desk_set_shares(desk, shares);
+    struct hubqr_desk_reply by_value = hubqr_desk_set_shares(HUBQR_OPERATOR, desk, shares);
     CHECK(what, by_value.number == HUBQR_ACCEPTED && same_desk(&by_value.desk, &due));
-    CHECK(what, hubqr_desk_set_shares_at(&desk, shares) == HUBQR_ACCEPTED && same_desk(&desk, &due));
+    CHECK(what, hubqr_desk_set_shares_at(HUBQR_OPERATOR, &desk, shares) == HUBQR_ACCEPTED && same_desk(&desk, &due));
 }
 
 void begin_shared(const char *what, uint32_t sector, uint16_t share)
@@ -98,10 +101,11 @@ static void check_reply(const char *what, struct hubqr_desk_load_reply reply, co
 /* Hands in a matrix, which makes this of the desk. */
 static void hand_in(const char *what, uint32_t sector, uint32_t matrix, const struct hubqr_desk *due)
 {
+    const uint8_t *record = records[matrix];
     size_t bytes = sizeof records[matrix];
     memcpy(area, areas[sector], sizeof area);
-    check_reply(what, hubqr_desk_hand_in(desk, sector, records[matrix], bytes, area, AREA_LENT), due, sector);
-    check_reply(what, hubqr_desk_hand_in_at(&desk, sector, records[matrix], bytes, areas[sector], AREA_LENT), due, sector);
+    check_reply(what, hubqr_desk_hand_in(HUBQR_OPERATOR, desk, sector, record, bytes, area, AREA_LENT), due, sector);
+    check_reply(what, hubqr_desk_hand_in_at(HUBQR_OPERATOR, &desk, sector, record, bytes, areas[sector], AREA_LENT), due, sector);
     CHECK(what, same_desk(&desk, due));
     check_areas(what, sector);
     heard_is(what, sector, due->heard[sector]);
@@ -143,8 +147,8 @@ void run(const char *what, uint32_t sector, uint16_t request, uint16_t granted)
     due.jobs[sector] = engine.job;
     due.left[sector] = (uint16_t)(due.left[sector] - granted);
     memcpy(area, areas[sector], sizeof area);
-    check_run(what, hubqr_desk_run(desk, sector, request, area, AREA_LENT), &due, &engine);
-    check_run(what, hubqr_desk_run_at(&desk, sector, request, areas[sector], AREA_LENT), &due, &engine);
+    check_run(what, hubqr_desk_run(HUBQR_OPERATOR, desk, sector, request, area, AREA_LENT), &due, &engine);
+    check_run(what, hubqr_desk_run_at(HUBQR_OPERATOR, &desk, sector, request, areas[sector], AREA_LENT), &due, &engine);
     CHECK(what, same_desk(&desk, &due));
     check_areas(what, sector);
 }
@@ -166,20 +170,38 @@ static void check_buffer(const char *what, const uint8_t due[HUBQR_RESULT_RECORD
     }
 }
 
-/* A sector's Fetch writes this record and makes this of the desk. */
-static void fetch_to(const char *what, uint32_t sector, const uint8_t record[HUBQR_RESULT_RECORD_BYTES],
-                     const struct hubqr_desk *due)
+/* A sector's Fetch by this role writes this record, makes this of the desk and leaves these words in the area. */
+static void fetch_by(const char *what, uint32_t role, uint32_t sector, const uint8_t record[HUBQR_RESULT_RECORD_BYTES],
+                     const struct hubqr_desk *due, const int32_t words[AREA_LENT])
 {
     scribble();
     memcpy(area, areas[sector], sizeof area);
-    struct hubqr_desk_reply by_value = hubqr_desk_fetch(desk, sector, area, AREA_LENT, buffer, BUFFER_LENT);
+    struct hubqr_desk_reply by_value = hubqr_desk_fetch(role, desk, sector, area, AREA_LENT, buffer, BUFFER_LENT);
     CHECK(what, by_value.number == HUBQR_ACCEPTED && same_desk(&by_value.desk, due));
     check_buffer(what, record);
     memset(buffer, 0xa5, HUBQR_RESULT_RECORD_BYTES);
-    CHECK(what, hubqr_desk_fetch_at(&desk, sector, areas[sector], AREA_LENT, buffer, BUFFER_LENT) == HUBQR_ACCEPTED);
+    CHECK(what, hubqr_desk_fetch_at(role, &desk, sector, areas[sector], AREA_LENT, buffer, BUFFER_LENT) == HUBQR_ACCEPTED);
     CHECK(what, same_desk(&desk, due));
     check_buffer(what, record);
-    check_areas(what, sector);
+    CHECK(what, memcmp(area, words, sizeof area) == 0 && memcmp(areas[sector], words, sizeof area) == 0);
+}
+
+void fetch_as_fitter(const char *what, uint32_t sector, const uint8_t due[HUBQR_RESULT_RECORD_BYTES])
+{
+    struct hubqr_desk kept = desk;
+    int32_t words[AREA_LENT];
+    memcpy(words, areas[sector], sizeof words);
+    fetch_by(what, HUBQR_FITTER, sector, due, &kept, words);
+}
+
+/* The operator's Fetch writes this record and makes this of the desk. In every other sector a fitter had the record before. */
+static void fetch_to(const char *what, uint32_t sector, const uint8_t record[HUBQR_RESULT_RECORD_BYTES],
+                     const struct hubqr_desk *due)
+{
+    if (sector % 2 == 1) {
+        fetch_as_fitter(what, sector, record);
+    }
+    fetch_by(what, HUBQR_OPERATOR, sector, record, due, alone[sector]);
 }
 
 void fetch(const char *what, uint32_t sector, const uint8_t due[HUBQR_RESULT_RECORD_BYTES])

@@ -1,7 +1,8 @@
 /*
  * What the tests of accepted calls at the desk share. Each sector is worked beside an area of its own on which the engine's calls
  * go on by the turns granted, so that it is seen to be as if it had run alone. Every call is made by value and by pointer, and
- * each checks the whole desk that it leaves, the sector's area and all that is answered.
+ * each checks the whole desk that it leaves, the sector's area and all that is answered. The calls are the operator's, where
+ * nothing else is said.
  */
 #ifndef SECTORS_H
 #define SECTORS_H
@@ -28,7 +29,7 @@ void start(void);
  */
 void place(uint32_t sector, uint32_t turn, uint32_t made, uint16_t left);
 
-/* What the antennas of a sector heard. */
+/* What the antennas of a sector heard, as each of the three roles is answered. */
 void heard_is(const char *what, uint32_t sector, uint8_t heard);
 /* Begins a round: each sector has its share left, and nothing else changes. */
 void begin(const char *what);
@@ -44,7 +45,12 @@ void let_wait(const char *what, uint32_t sector, uint32_t matrix);
 void run(const char *what, uint32_t sector, uint16_t request, uint16_t granted);
 /* The record that Whole makes of a matrix. */
 void whole_of(const char *what, uint32_t matrix, uint8_t due[HUBQR_RESULT_RECORD_BYTES]);
-/* A sector's Fetch, for which none waits, writes this record, or what Whole makes of a matrix, and changes nothing else. */
+/* A fitter's Fetch of a sector writes this record and changes nothing else, whether or not a matrix waits. */
+void fetch_as_fitter(const char *what, uint32_t sector, const uint8_t due[HUBQR_RESULT_RECORD_BYTES]);
+/*
+ * A sector's Fetch, for which none waits, writes this record, or what Whole makes of a matrix, and changes nothing else. Here and
+ * below a fitter's Fetch comes before it.
+ */
 void fetch(const char *what, uint32_t sector, const uint8_t due[HUBQR_RESULT_RECORD_BYTES]);
 void fetch_whole(const char *what, uint32_t sector, uint32_t matrix);
 /* A sector's Fetch writes this record and brings in what waits in the desk, with this heard byte. */

@@ -5,6 +5,7 @@
 #include <algorithm>
 #include <array>
 #include <cstdio>
+#include <cstring>
 #include <string_view>
 #include <utility>
 
@@ -115,52 +116,61 @@ static bool served()
     record[0] = HUBQR_KIND_MATRIX;
     record[2] = HUBQR_HEARD_ABOVE + 1;
     hubqr_desk desk = hubqr_desk_new();
-    auto loaded = hubqr_desk_hand_in(desk, 7, record.data(), record.size(), area.data(), area.size());
+    auto loaded = hubqr_desk_hand_in(HUBQR_OPERATOR, desk, 7, record.data(), record.size(), area.data(), area.size());
     desk = loaded.desk;
     bool begun = loaded.number == HUBQR_ACCEPTED && loaded.heard == 1 && is_job(loaded.job, 0, 0) && desk.left[7] == 15;
-    auto ran = hubqr_desk_run(desk, 7, 10, area.data(), area.size());
+    auto ran = hubqr_desk_run(HUBQR_OPERATOR, desk, 7, 10, area.data(), area.size());
     desk = ran.desk;
     bool granted = ran.number == HUBQR_ACCEPTED && ran.count == 10 && is_job(desk.jobs[7], 10, 0) && desk.left[7] == 5;
-    bool shared = hubqr_desk_set_shares_at(&desk, {{0, 0, 0, 0, 0, 0, 0, 120}}) == HUBQR_ACCEPTED && desk.left[7] == 5;
-    bool next = hubqr_desk_begin_at(&desk) == HUBQR_ACCEPTED && desk.left[7] == 120 && desk.left[6] == 0;
-    auto rest = hubqr_desk_run_at(&desk, 7, 120, area.data(), area.size());
+    auto number = hubqr_desk_set_shares_at(HUBQR_OPERATOR, &desk, {{0, 0, 0, 0, 0, 0, 0, 120}});
+    bool shared = number == HUBQR_ACCEPTED && desk.left[7] == 5;
+    bool next = hubqr_desk_begin_at(HUBQR_OPERATOR, &desk) == HUBQR_ACCEPTED && desk.left[7] == 120 && desk.left[6] == 0;
+    auto rest = hubqr_desk_run_at(HUBQR_OPERATOR, &desk, 7, 120, area.data(), area.size());
     bool finished = rest.number == HUBQR_ACCEPTED && rest.count == 110 && desk.left[7] == 10;
-    auto fetched = hubqr_desk_fetch(desk, 7, area.data(), area.size(), buffer.data(), buffer.size());
+    auto fetched = hubqr_desk_fetch(HUBQR_OPERATOR, desk, 7, area.data(), area.size(), buffer.data(), buffer.size());
+    auto cut = hubqr_desk_fetch_at(HUBQR_OPERATOR, &desk, 7, area.data(), area.size(), buffer.data(), 0);
     return begun && granted && shared && next && finished && fetched.number == HUBQR_ACCEPTED && buffer[0] == HUBQR_KIND_RESULT &&
-           hubqr_desk_fetch_at(&desk, 7, area.data(), area.size(), buffer.data(), 0) == HUBQR_BUFFER_TOO_SHORT;
+           cut == HUBQR_BUFFER_TOO_SHORT;
 }
 
 // The next matrix of sector 2 is handed in when no turn of the first is made. It waits; a Fetch that is refused for its short
-// buffer brings nothing in, and it is loaded when the first is fetched. Its antenna is 1, and that of the first is 0.
+// buffer brings nothing in, nor does a fitter's, and it is loaded when the operator fetches the first. Its antenna is 1, and that
+// of the first is 0.
 static bool early()
 {
     auto next = record;
     std::swap(next[2], next[2 + 4 * 9]);
     hubqr_desk desk = hubqr_desk_new();
-    auto loaded = hubqr_desk_hand_in_at(&desk, 2, record.data(), record.size(), area.data(), area.size());
-    auto kept = hubqr_desk_hand_in(desk, 2, next.data(), next.size(), area.data(), area.size());
-    auto waits = hubqr_desk_hand_in_at(&desk, 2, next.data(), next.size(), area.data(), area.size());
+    auto loaded = hubqr_desk_hand_in_at(HUBQR_OPERATOR, &desk, 2, record.data(), record.size(), area.data(), area.size());
+    auto kept = hubqr_desk_hand_in(HUBQR_OPERATOR, desk, 2, next.data(), next.size(), area.data(), area.size());
+    auto waits = hubqr_desk_hand_in_at(HUBQR_OPERATOR, &desk, 2, next.data(), next.size(), area.data(), area.size());
     bool waiting = loaded.desk.waits[2] == 0 && kept.desk.waits[2] == 1 && waits.heard == 1 && desk.waits[2] == 1 &&
                    std::equal(next.begin(), next.end(), desk.records + 2 * HUBQR_MATRIX_RECORD_BYTES);
     desk.left[2] = 120;
-    bool ran = hubqr_desk_run_at(&desk, 2, 120, area.data(), area.size()).count == 120;
-    auto cut = hubqr_desk_fetch(desk, 2, area.data(), area.size(), buffer.data(), 2048);
+    bool ran = hubqr_desk_run_at(HUBQR_OPERATOR, &desk, 2, 120, area.data(), area.size()).count == 120;
+    auto cut = hubqr_desk_fetch(HUBQR_OPERATOR, desk, 2, area.data(), area.size(), buffer.data(), 2048);
     bool refused = cut.number == HUBQR_BUFFER_TOO_SHORT && cut.desk.waits[2] == 1 && cut.desk.jobs[2].turn == HUBQR_TURNS;
-    bool fetched = hubqr_desk_fetch_at(&desk, 2, area.data(), area.size(), buffer.data(), buffer.size()) == HUBQR_ACCEPTED;
+    auto words = area;
+    buffer.fill(0);
+    auto seen = hubqr_desk_fetch_at(HUBQR_FITTER, &desk, 2, area.data(), area.size(), buffer.data(), buffer.size());
+    bool left = seen == HUBQR_ACCEPTED && buffer[0] == HUBQR_KIND_RESULT && desk.waits[2] == 1 && area == words;
+    auto result = buffer;
+    auto fetched = hubqr_desk_fetch_at(HUBQR_OPERATOR, &desk, 2, area.data(), area.size(), buffer.data(), buffer.size());
     bool brought_in = desk.waits[2] == 0 && desk.heard[2] == 2 && is_job(desk.jobs[2], 0, 0) && desk.left[2] == 0;
-    return waiting && ran && refused && fetched && brought_in && area[HUBQR_AREA_COLUMNS + 1] == 17 * 8192;
+    return waiting && ran && refused && left && fetched == HUBQR_ACCEPTED && buffer == result && brought_in &&
+           area[HUBQR_AREA_COLUMNS + 1] == 17 * 8192;
 }
 
 // The count of sector 0, which is loaded then, is used up until the next round begins; and there is no sector 256.
 static bool turned_away()
 {
-    hubqr_desk desk = hubqr_desk_begin(hubqr_desk_new()).desk;
+    hubqr_desk desk = hubqr_desk_begin(HUBQR_OPERATOR, hubqr_desk_new()).desk;
     desk.left[0] = 0;
-    auto loaded = hubqr_desk_hand_in_at(&desk, 0, record.data(), record.size(), area.data(), area.size());
-    auto ran = hubqr_desk_run_at(&desk, 0, 1, area.data(), area.size());
+    auto loaded = hubqr_desk_hand_in_at(HUBQR_OPERATOR, &desk, 0, record.data(), record.size(), area.data(), area.size());
+    auto ran = hubqr_desk_run_at(HUBQR_OPERATOR, &desk, 0, 1, area.data(), area.size());
     bool used_up = ran.number == HUBQR_COUNT_USED_UP && is_job(ran.job, 0, 0) && ran.count == 0 && desk.left[0] == 0;
-    bool next = hubqr_desk_begin_at(&desk) == HUBQR_ACCEPTED && desk.left[0] == HUBQR_FIRST_SHARE;
-    auto heard = hubqr_desk_heard(desk, 0), none = hubqr_desk_heard_at(&desk, 256);
+    bool next = hubqr_desk_begin_at(HUBQR_OPERATOR, &desk) == HUBQR_ACCEPTED && desk.left[0] == HUBQR_FIRST_SHARE;
+    auto heard = hubqr_desk_heard(HUBQR_OPERATOR, desk, 0), none = hubqr_desk_heard_at(HUBQR_OPERATOR, &desk, 256);
     return loaded.number == HUBQR_ACCEPTED && used_up && next && heard.number == HUBQR_ACCEPTED && heard.heard == 1 &&
            none.number == HUBQR_NO_SUCH_SECTOR && none.heard == 0;
 }
@@ -170,21 +180,57 @@ static bool shared_out()
 {
     hubqr_shares shares{{15, 15, 15, 15, 15, 15, 15, 16}};
     hubqr_desk desk = hubqr_desk_new();
-    auto refused = hubqr_desk_set_shares(desk, shares);
-    bool by_pointer = hubqr_desk_set_shares_at(&desk, shares) == HUBQR_SHARES_EXCEED_ROUND;
+    auto refused = hubqr_desk_set_shares(HUBQR_OPERATOR, desk, shares);
+    bool by_pointer = hubqr_desk_set_shares_at(HUBQR_OPERATOR, &desk, shares) == HUBQR_SHARES_EXCEED_ROUND;
     bool kept = desk.shares[7] == HUBQR_FIRST_SHARE && refused.desk.shares[7] == HUBQR_FIRST_SHARE;
     shares.shares[0] = 14;
-    auto accepted = hubqr_desk_set_shares(desk, shares);
+    auto accepted = hubqr_desk_set_shares(HUBQR_OPERATOR, desk, shares);
     bool set = std::equal(shares.shares, shares.shares + HUBQR_SECTORS, accepted.desk.shares);
     return refused.number == HUBQR_SHARES_EXCEED_ROUND && by_pointer && kept && accepted.number == HUBQR_ACCEPTED && set &&
-           accepted.desk.left[0] == 15 && hubqr_desk_begin(accepted.desk).desk.left[0] == 14;
+           accepted.desk.left[0] == 15 && hubqr_desk_begin(HUBQR_OPERATOR, accepted.desk).desk.left[0] == 14;
+}
+
+// Who may make which call, of a role or a number that is none, for sector 3, where a result is finished, and for sector 8, by
+// value and by pointer. The desk is the same after each call that is refused, and all other fields are 0.
+static bool allowed(uint32_t role, bool heard, bool fetch, bool others)
+{
+    hubqr_desk desk = hubqr_desk_new();
+    desk.heard[3] = 0x55;
+    area.fill(0);
+    auto kept = [before = desk](const hubqr_desk &after) { return std::memcmp(&before, &after, sizeof before) == 0; };
+    auto is = [](bool may, int number, int otherwise) { return number == (may ? otherwise : int{HUBQR_NOT_ALLOWED}); };
+    auto asked = hubqr_desk_heard(role, desk, 3), nowhere = hubqr_desk_heard_at(role, &desk, 8);
+    bool seen = is(heard, asked.number, HUBQR_ACCEPTED) && asked.heard == (heard ? 0x55 : 0) && kept(asked.desk) &&
+                is(heard, nowhere.number, HUBQR_NO_SUCH_SECTOR) && nowhere.heard == 0 && kept(nowhere.desk);
+    auto fetched = hubqr_desk_fetch(role, desk, 3, area.data(), area.size(), buffer.data(), buffer.size());
+    auto unfetched = hubqr_desk_fetch_at(role, &desk, 8, nullptr, 0, nullptr, 0);
+    bool read = is(fetch, fetched.number, HUBQR_ACCEPTED) && kept(fetched.desk) && is(fetch, unfetched, HUBQR_NO_SUCH_SECTOR);
+    auto handed_in = hubqr_desk_hand_in(role, desk, 8, record.data(), record.size(), area.data(), area.size());
+    auto ran = hubqr_desk_run_at(role, &desk, 3, 15, nullptr, 0);
+    bool worked = is(others, handed_in.number, HUBQR_NO_SUCH_SECTOR) && kept(handed_in.desk) && handed_in.heard == 0 &&
+                  is(others, ran.number, HUBQR_AREA_TOO_SHORT) && kept(ran.desk) && is_job(ran.job, 0, 0) && ran.count == 0;
+    auto begun = hubqr_desk_begin(role, desk);
+    auto shared = hubqr_desk_set_shares_at(role, &desk, {{121}});
+    return seen && read && worked && is(others, begun.number, HUBQR_ACCEPTED) && kept(begun.desk) &&
+           is(others, shared, HUBQR_SHARES_EXCEED_ROUND) && kept(desk);
+}
+
+// A role is an enumerator, and any other number of 32 bits is none.
+static bool by_role()
+{
+    bool none = true;
+    for (uint32_t role : {3u, 255u, 256u, 257u, 258u, 65538u, UINT32_MAX}) {
+        none = none && allowed(role, false, false, false);
+    }
+    return none && allowed(HUBQR_VIEWER, true, false, false) && allowed(HUBQR_FITTER, true, true, false) &&
+           allowed(HUBQR_OPERATOR, true, true, true);
 }
 
 int main()
 {
     bool named = hubqr_version() == HUBQR_VERSION && hubqr_refusal_words(HUBQR_ACCEPTED) == std::string_view("accepted");
     bool calls = accepted() && in_instalments() && clamped() && refused() && covariance() && weighted();
-    bool holds = calls && served() && early() && turned_away() && shared_out() && named;
+    bool holds = calls && served() && early() && turned_away() && shared_out() && by_role() && named;
     std::puts(holds ? "hubqr C++ face: passed" : "hubqr C++ face: FAILED");
     return holds ? 0 : 1;
 }

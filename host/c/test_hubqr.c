@@ -18,6 +18,7 @@ int main(void)
     test_desk();
     test_hand_in();
     test_desk_refused();
+    test_roles();
     printf("hubqr C face: %u checks passed\n", checks_passed());
     return 0;
 }

@@ -2,8 +2,9 @@
 //! room for one matrix that waits for the job to be fetched.
 //!
 //! The desk has a seat for each sector, a value of its own with all that the desk knows of that
-//! sector, and is nothing else. A call takes the seat, does the factorization's own call with its
-//! job, and seats the sector anew. All calls answer alike: what one of them does not speak of is 0.
+//! sector, and is nothing else. A call tests the role that it is made in before anything else, takes
+//! the seat, does the factorization's own call with its job, and seats the sector anew. All calls
+//! answer alike: what one of them does not speak of is 0.
 
 use crate::area::AREA_WORDS;
 use crate::calls;
@@ -12,6 +13,7 @@ use crate::job::Job;
 use crate::matrix::Matrix;
 use crate::records::{matrix_behind_kind, write_matrix, MATRIX_RECORD};
 use crate::replies::Refusal;
+use crate::role::Role;
 use crate::schedule::TURNS;
 
 /// Sectors of a hub.
@@ -83,8 +85,8 @@ impl Seat {
         }
     }
 
-    /// The seat after its result was fetched from an area: what waits is loaded there. It was tested
-    /// when it was handed in.
+    /// The seat after the operator fetched its result from an area: what waits is loaded there. It was
+    /// tested when it was handed in.
     fn fetched(self, area: &mut [i32; AREA_WORDS]) -> Self {
         if self.waits == 0 {
             return self;
@@ -126,6 +128,11 @@ impl Desk {
         self.seats[sector as usize] = seat;
         self
     }
+
+    /// The reply of a call that was handed this desk.
+    fn answer(&self, reply: Result<DeskReply, Refusal>) -> DeskReply {
+        reply.unwrap_or_else(|refusal| DeskReply::refused(refusal, self))
+    }
 }
 
 /// What every call answers. A refused one answers its number and the desk as it was.
@@ -165,62 +172,72 @@ impl DeskReply {
 }
 
 /// Begins a round.
-pub fn begin(desk: &Desk) -> DeskReply {
-    let seats = desk.seats.map(Seat::refilled);
-    DeskReply::from(Desk { seats })
+pub fn begin(role: u32, desk: &Desk) -> DeskReply {
+    desk.answer(accept_begin(role, desk))
 }
 
 /// Sets all shares, that of sector k at place k. What the sectors have left is that of the round
 /// that has begun.
-pub fn set_shares(desk: &Desk, shares: &[u16; SECTORS]) -> DeskReply {
+pub fn set_shares(role: u32, desk: &Desk, shares: &[u16; SECTORS]) -> DeskReply {
+    desk.answer(accept_shares(role, desk, shares))
+}
+
+/// Hands in a sector's matrix, which is loaded or waits, and answers the job and the heard byte that
+/// the sector then has.
+pub fn hand_in(role: u32, desk: &Desk, sector: u32, record: &[u8], area: &mut [i32]) -> DeskReply {
+    desk.answer(accept_hand_in(role, desk, sector, record, area))
+}
+
+/// A sector's Run: of the turns that its job has left it makes at most the request, and at most
+/// what the sector has left in the round.
+pub fn run(role: u32, desk: &Desk, sector: u32, request: u16, area: &mut [i32]) -> DeskReply {
+    desk.answer(accept_run(role, desk, sector, request, area))
+}
+
+/// A sector's Fetch. After that of the operator the matrix that waits is loaded; after that of a
+/// fitter it goes on waiting.
+pub fn fetch(
+    role: u32,
+    desk: &Desk,
+    sector: u32,
+    area: &mut [i32],
+    buffer: &mut [u8],
+) -> DeskReply {
+    desk.answer(accept_fetch(role, desk, sector, area, buffer))
+}
+
+/// A sector's heard byte.
+pub fn heard(role: u32, desk: &Desk, sector: u32) -> DeskReply {
+    desk.answer(accept_heard(role, desk, sector))
+}
+
+fn accept_begin(role: u32, desk: &Desk) -> Result<DeskReply, Refusal> {
+    Role::Operator.test(role)?;
+    let seats = desk.seats.map(Seat::refilled);
+    Ok(DeskReply::from(Desk { seats }))
+}
+
+fn accept_shares(role: u32, desk: &Desk, shares: &[u16; SECTORS]) -> Result<DeskReply, Refusal> {
+    Role::Operator.test(role)?;
     let total: u32 = shares.iter().map(|share| u32::from(*share)).sum();
     if total > ROUND_TURNS.into() {
-        return DeskReply::refused(Refusal::Shares, desk);
+        return Err(Refusal::Shares);
     }
     let mut desk = *desk;
     for (seat, share) in desk.seats.iter_mut().zip(shares) {
         seat.share = *share;
     }
-    DeskReply::from(desk)
-}
-
-/// Hands in a sector's matrix, which is loaded or waits, and answers the job and the heard byte that
-/// the sector then has.
-pub fn hand_in(desk: &Desk, sector: u32, record: &[u8], area: &mut [i32]) -> DeskReply {
-    let reply = accept_hand_in(desk, sector, record, area);
-    reply.unwrap_or_else(|refusal| DeskReply::refused(refusal, desk))
-}
-
-/// A sector's Run: of the turns that its job has left it makes at most the request, and at most
-/// what the sector has left in the round.
-pub fn run(desk: &Desk, sector: u32, request: u16, area: &mut [i32]) -> DeskReply {
-    let reply = accept_run(desk, sector, request, area);
-    reply.unwrap_or_else(|refusal| DeskReply::refused(refusal, desk))
-}
-
-/// A sector's Fetch, after which the matrix that waits is loaded.
-pub fn fetch(desk: &Desk, sector: u32, area: &mut [i32], buffer: &mut [u8]) -> DeskReply {
-    let reply = accept_fetch(desk, sector, area, buffer);
-    reply.unwrap_or_else(|refusal| DeskReply::refused(refusal, desk))
-}
-
-/// A sector's heard byte.
-pub fn heard(desk: &Desk, sector: u32) -> DeskReply {
-    match desk.seat(sector) {
-        Ok(Seat { heard, .. }) => DeskReply {
-            heard,
-            ..DeskReply::from(*desk)
-        },
-        Err(refusal) => DeskReply::refused(refusal, desk),
-    }
+    Ok(DeskReply::from(desk))
 }
 
 fn accept_hand_in(
+    role: u32,
     desk: &Desk,
     sector: u32,
     record: &[u8],
     area: &mut [i32],
 ) -> Result<DeskReply, Refusal> {
+    Role::Operator.test(role)?;
     let seat = desk.seat(sector)?;
     let (matrix, area) = calls::test_load(record, area)?;
     let seat = if seat.is_free() {
@@ -236,11 +253,13 @@ fn accept_hand_in(
 }
 
 fn accept_run(
+    role: u32,
     desk: &Desk,
     sector: u32,
     request: u16,
     area: &mut [i32],
 ) -> Result<DeskReply, Refusal> {
+    Role::Operator.test(role)?;
     let seat = desk.seat(sector)?;
     calls::lent_area(area)?;
     calls::test_job(seat.job)?;
@@ -258,27 +277,46 @@ fn accept_run(
 }
 
 fn accept_fetch(
+    role: u32,
     desk: &Desk,
     sector: u32,
     area: &mut [i32],
     buffer: &mut [u8],
 ) -> Result<DeskReply, Refusal> {
+    let role = Role::Fitter.test(role)?;
     let seat = desk.seat(sector)?;
     calls::accept_fetch(seat.job, area, buffer)?;
+    if role != Role::Operator {
+        return Ok(DeskReply::from(*desk));
+    }
     let seat = seat.fetched(calls::lent_area(area)?);
     Ok(DeskReply::from(desk.seated(sector, seat)))
 }
 
+fn accept_heard(role: u32, desk: &Desk, sector: u32) -> Result<DeskReply, Refusal> {
+    Role::Viewer.test(role)?;
+    let heard = desk.seat(sector)?.heard;
+    Ok(DeskReply {
+        heard,
+        ..DeskReply::from(*desk)
+    })
+}
+
+#[cfg(test)]
+mod roles;
+
 #[cfg(test)]
 mod tests {
     use super::*;
+
+    const OPERATOR: u32 = 2;
 
     /// Kind byte 1, and each part 257.
     const RECORD: [u8; 257] = [1; 257];
 
     fn loaded(sectors: &[u32], area: &mut [i32; 512]) -> Desk {
         sectors.iter().fold(Desk::NEW, |desk, &sector| {
-            hand_in(&desk, sector, &RECORD, area).desk
+            hand_in(OPERATOR, &desk, sector, &RECORD, area).desk
         })
     }
 
@@ -310,7 +348,7 @@ mod tests {
                 ..Seat::NEW
             }),
         };
-        let reply = begin(&desk(|k| 7 - k));
+        let reply = begin(OPERATOR, &desk(|k| 7 - k));
         assert_eq!(reply, DeskReply::from(desk(|k| 9_000 * k)));
     }
 
@@ -318,18 +356,18 @@ mod tests {
     #[test]
     fn shares_are_set_up_to_120_in_total_and_count_later() {
         for shares in [[15; 8], [0; 8], [120, 0, 0, 0, 0, 0, 0, 0], [8; 8]] {
-            let reply = set_shares(&Desk::NEW, &shares);
+            let reply = set_shares(OPERATOR, &Desk::NEW, &shares);
             assert_eq!((reply.number, left(&reply.desk)), (0, [15; 8]));
             assert_eq!(reply.desk.seats.map(|seat| seat.share), shares);
-            assert_eq!(left(&begin(&reply.desk).desk), shares);
+            assert_eq!(left(&begin(OPERATOR, &reply.desk).desk), shares);
         }
         let refused = DeskReply::refused(Refusal::Shares, &Desk::NEW);
         assert_eq!((refused.number, refused.desk), (14, Desk::NEW));
         for shares in [[16; 8], [65_535; 8], [8_192; 8], [0, 0, 0, 0, 0, 0, 0, 121]] {
-            assert_eq!(set_shares(&Desk::NEW, &shares), refused);
+            assert_eq!(set_shares(OPERATOR, &Desk::NEW, &shares), refused);
         }
         let wrapping = [65_535, 0, 0, 0, 0, 0, 0, 1];
-        assert_eq!(set_shares(&Desk::NEW, &wrapping), refused);
+        assert_eq!(set_shares(OPERATOR, &Desk::NEW, &wrapping), refused);
     }
 
     /// A desk at which sector 3 has a job, and a count that is not its share.
@@ -351,7 +389,7 @@ mod tests {
         for (turn, made) in [(120, 0), (120, 120), (121, 0), (u32::MAX, u32::MAX)] {
             let (mut area, mut due) = ([7; 512], desk_at(turn, made));
             due.seats[3].record = [9; 257];
-            let reply = hand_in(&due, 3, &RECORD, &mut area);
+            let reply = hand_in(OPERATOR, &due, 3, &RECORD, &mut area);
             assert_eq!((reply.number, reply.heard), (0, 255));
             assert_eq!((reply.job, reply.count), (Job::new(0, 0), 0));
             (due.seats[3].job, due.seats[3].heard) = (Job::new(0, 0), 255);
@@ -371,7 +409,7 @@ mod tests {
         ] {
             let (mut area, mut due) = ([7; 512], desk_at(turn, made));
             (due.seats[3].waits, due.seats[3].record) = (waits, [9; 257]);
-            let reply = hand_in(&due, 3, &RECORD, &mut area);
+            let reply = hand_in(OPERATOR, &due, 3, &RECORD, &mut area);
             assert_eq!((reply.number, reply.heard), (0, 7));
             assert_eq!(reply.job, Job::new(turn, made));
             (due.seats[3].waits, due.seats[3].record) = (1, RECORD);
@@ -385,7 +423,7 @@ mod tests {
         (desk.seats[3].waits, desk.seats[3].record) = (1, RECORD);
         let (mut area, none_heard) = ([7; 512], [&[1], &[0; 256][..]].concat());
         let mut number = |record: &[u8], words: usize| {
-            let reply = hand_in(&desk, 3, record, &mut area[..words]);
+            let reply = hand_in(OPERATOR, &desk, 3, record, &mut area[..words]);
             assert_eq!((reply.desk, reply.heard), (desk, 0));
             reply.number
         };
@@ -396,8 +434,8 @@ mod tests {
         assert_eq!(area, [7; 512]);
     }
 
-    /// Only a Fetch that succeeds brings it in, and it is not tested again: kind byte and heard byte
-    /// may be anything.
+    /// Only the operator's Fetch that succeeds brings it in, and it is not tested again: kind byte and
+    /// heard byte may be anything.
     #[test]
     fn a_fetch_brings_in_what_waits() {
         for (waits, kind, part, heard) in [(1, 1, 1, 255), (2, 0, 1, 255), (255, 2, 0, 0)] {
@@ -406,10 +444,10 @@ mod tests {
             let mut record = [part; 257];
             record[0] = kind;
             (due.seats[3].waits, due.seats[3].record) = (waits, record);
-            let refused = fetch(&due, 3, &mut area, &mut buffer[..2048]);
+            let refused = fetch(OPERATOR, &due, 3, &mut area, &mut buffer[..2048]);
             assert_eq!(refused, DeskReply::refused(Refusal::Buffer, &due));
             assert_eq!((area, buffer), ([0; 512], [7; 2049]));
-            let reply = fetch(&due, 3, &mut area, &mut buffer);
+            let reply = fetch(OPERATOR, &due, 3, &mut area, &mut buffer);
             (due.seats[3].job, due.seats[3].heard) = (Job::new(0, 0), heard);
             due.seats[3].waits = 0;
             assert_eq!(reply, DeskReply::from(due));
@@ -421,7 +459,7 @@ mod tests {
     fn a_fetch_with_none_waiting_may_be_repeated() {
         let (mut area, desk) = ([0; 512], desk_at(120, 8));
         for _ in 0..2 {
-            let reply = fetch(&desk, 3, &mut area, &mut [0; 2049]);
+            let reply = fetch(OPERATOR, &desk, 3, &mut area, &mut [0; 2049]);
             assert_eq!((reply, area), (DeskReply::from(desk), [0; 512]));
         }
     }
@@ -442,17 +480,17 @@ mod tests {
             (1, 0, 0, 10, 0),
             (2, 9, 0, 10, 0),
         ] {
-            let reply = run(&desk, sector, request, &mut area);
+            let reply = run(OPERATOR, &desk, sector, request, &mut area);
             assert_eq!((reply.number, reply.count), (0, count));
             desk = reply.desk;
             assert_eq!(left(&desk), [of_0, of_1, 15, 15, 15, 15, 15, 15]);
         }
         assert_eq!(desk.seats[0].job.turn, 120);
         let refused = DeskReply::refused(Refusal::CountUsedUp, &desk);
-        assert_eq!(run(&desk, 1, 1, &mut area), refused);
+        assert_eq!(run(OPERATOR, &desk, 1, 1, &mut area), refused);
         assert_eq!((refused.number, refused.job), (13, Job::new(0, 0)));
-        desk = begin(&desk).desk;
-        let reply = run(&desk, 1, 9, &mut area);
+        desk = begin(OPERATOR, &desk).desk;
+        let reply = run(OPERATOR, &desk, 1, 9, &mut area);
         assert_eq!((reply.count, reply.desk.seats[1].left), (9, 6));
     }
 
@@ -465,22 +503,27 @@ mod tests {
             desk.seats[7].left = 0;
             desk
         };
-        assert_eq!(run(&desk(5, 6), 8, 1, short).number, 12);
-        assert_eq!(run(&desk(5, 6), 7, 1, short).number, 3);
-        assert_eq!(run(&desk(5, 6), 7, 1, full).number, 5);
-        assert_eq!(run(&desk(5, 5), 7, 1, full).number, 13);
-        assert_eq!(run(&desk(5, 5), 7, 0, full).number, 0);
-        assert_eq!(run(&desk(120, 5), 7, 1, full).number, 0);
+        assert_eq!(run(OPERATOR, &desk(5, 6), 8, 1, short).number, 12);
+        assert_eq!(run(OPERATOR, &desk(5, 6), 7, 1, short).number, 3);
+        assert_eq!(run(OPERATOR, &desk(5, 6), 7, 1, full).number, 5);
+        assert_eq!(run(OPERATOR, &desk(5, 5), 7, 1, full).number, 13);
+        assert_eq!(run(OPERATOR, &desk(5, 5), 7, 0, full).number, 0);
+        assert_eq!(run(OPERATOR, &desk(120, 5), 7, 1, full).number, 0);
     }
 
     #[test]
-    fn a_sector_above_7_is_refused_ahead_of_all_else() {
+    fn a_sector_above_7_is_refused_ahead_of_all_but_the_role() {
+        let desk = &Desk::NEW;
         for sector in [8, 255, 256, u32::MAX] {
-            let refused = DeskReply::refused(Refusal::Sector, &Desk::NEW);
-            assert_eq!(hand_in(&Desk::NEW, sector, &[], &mut []), refused);
-            assert_eq!(run(&Desk::NEW, sector, 1, &mut []), refused);
-            assert_eq!(fetch(&Desk::NEW, sector, &mut [], &mut []), refused);
-            assert_eq!(heard(&Desk::NEW, sector), refused);
+            let refused = DeskReply::refused(Refusal::Sector, desk);
+            assert_eq!(hand_in(OPERATOR, desk, sector, &[], &mut []), refused);
+            assert_eq!(run(OPERATOR, desk, sector, 1, &mut []), refused);
+            for role in 1..=2 {
+                assert_eq!(fetch(role, desk, sector, &mut [], &mut []), refused);
+            }
+            for role in 0..=2 {
+                assert_eq!(heard(role, desk, sector), refused);
+            }
         }
     }
 }

@@ -35,6 +35,8 @@ pub enum Refusal {
     CountUsedUp = 13,
     /// The shares of all sectors are above 120 in total.
     Shares = 14,
+    /// The call is not allowed to this role.
+    Role = 15,
 }
 
 impl Refusal {

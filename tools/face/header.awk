@@ -1,4 +1,4 @@
-# Reads the headers: functions, structs, refusals and the version. An attribute that a function lacks is a fault too.
+# Reads the headers: functions, structs, refusals, roles and the version. An attribute that a function lacks is a fault too.
 
 BEGIN {
     n = split("uint8_t u8 uint16_t u16 uint32_t u32 uint64_t u64 int8_t i8 int16_t i16 int32_t i32 int64_t i64 " \
@@ -72,7 +72,17 @@ function without_attributes(item) {
     return item
 }
 
+# The roles and their numbers, each HUBQR_NAME = number.
+function roles(item,   parts) {
+    while (match(item, /HUBQR_[A-Z]+ = [0-9]+/)) {
+        split(substr(item, RSTART + 6, RLENGTH - 6), parts, " = ")
+        say("role " parts[1], parts[2])
+        item = substr(item, RSTART + RLENGTH)
+    }
+}
+
 function declared(item) {
+    if (item ~ /^enum hubqr_role /) roles(item)
     if (item ~ /^enum /) return
     if (item ~ /^struct hubqr_[a-z0-9_]+ ?\{/) structure(item)
     else if (item ~ /hubqr_[a-z0-9_]+ ?\(/) declaration(item)

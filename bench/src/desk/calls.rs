@@ -1,7 +1,9 @@
-//! Calls, areas and desks of any kind, for which the desks have to agree.
+//! Roles, calls, areas and desks of any kind, for which the desks have to agree.
 
 use hubqr::ffi::Shares;
-use hubqr::{Desk, Job, AREA_WORDS, MATRIX_RECORD_BYTES, RESULT_RECORD_BYTES, SECTORS, TURNS};
+use hubqr::{
+    Desk, Job, Role, AREA_WORDS, MATRIX_RECORD_BYTES, RESULT_RECORD_BYTES, SECTORS, TURNS,
+};
 use reference::random::Random;
 
 use crate::contenders::{Area, Record, ENGINE};
@@ -11,6 +13,9 @@ use crate::inputs;
 const TURN_NUMBERS: [u32; 9] = [0, 1, 60, 118, 119, 120, 121, 256, u32::MAX];
 const COUNTS: [u16; 10] = [0, 1, 15, 119, 120, 121, 256, 300, 1 << 13, u16::MAX];
 const OTHER_SECTORS: [u32; 6] = [8, 255, 256, 263, 65_536, u32::MAX];
+
+/// Numbers of no role. Cut to a byte or to 16 bits, some of them would be one.
+const OTHER_ROLES: [u32; 7] = [3, 255, 256, 257, 258, 65_538, u32::MAX];
 
 /// What begins a round, sets shares, or is for a sector, with words of the area: a hand-in of a record,
 /// a Run with its request, or a Fetch with bytes of the buffer.
@@ -33,6 +38,19 @@ impl Call {
             }
         }
     }
+}
+
+/// The number of a role, most often of one that may make the call, or at times of none.
+pub fn any_role(random: &mut Random, call: &Call) -> u32 {
+    if random.one_in(20) {
+        return random.choose(&OTHER_ROLES);
+    }
+    let role = match call {
+        _ if random.one_in(8) => random.choose(&[Role::Viewer, Role::Fitter]),
+        Call::Fetch(..) => random.choose(&[Role::Fitter, Role::Operator]),
+        _ => Role::Operator,
+    };
+    role.number()
 }
 
 /// Most are of a sector, and of an area and a buffer long enough.
@@ -116,19 +134,26 @@ fn any_shares(random: &mut Random) -> Shares {
 /// of a hand-in: a desk that loads it by the engine's Load could not load another.
 pub fn made_up(random: &mut Random) -> Desk {
     let records: [Record; SECTORS] = std::array::from_fn(|_| inputs::record(random));
-    let number = |random: &mut Random| match random.one_in(2) {
-        true => random.choose(&TURN_NUMBERS),
-        false => random.between(0, TURNS.into()) as u32,
-    };
     Desk {
-        jobs: std::array::from_fn(|_| Job {
-            turn: number(random),
-            made: number(random),
-        }),
+        jobs: std::array::from_fn(|_| any_job(random)),
         heard: std::array::from_fn(|_| random.word() as u8),
         shares: std::array::from_fn(|_| random.choose(&COUNTS)),
         left: std::array::from_fn(|_| random.choose(&COUNTS)),
         waits: std::array::from_fn(|_| random.choose(&[0, 1, 2, 255])),
         records: std::array::from_fn(|k| records.as_flattened()[k]),
     }
+}
+
+/// Some are finished.
+fn any_job(random: &mut Random) -> Job {
+    let number = |random: &mut Random| match random.one_in(2) {
+        true => random.choose(&TURN_NUMBERS),
+        false => random.between(0, TURNS.into()) as u32,
+    };
+    let turn = match random.one_in(4) {
+        true => TURNS,
+        false => number(random),
+    };
+    let made = number(random);
+    Job { turn, made }
 }

@@ -6,22 +6,23 @@ use hubqr::{Desk, MATRIX_RECORD_BYTES};
 
 use super::{agree, versions};
 
-/// An implementation under the name that the table has. It takes any desk whose matrices passed the
-/// tests of a hand-in, and any sector, record, request and lengths.
+/// An implementation under the name that the table has. It takes any number for the role, which comes
+/// first, any desk whose matrices passed the tests of a hand-in, and any sector, record, request and
+/// lengths.
 #[derive(Clone, Copy)]
 pub struct Contender {
     pub name: &'static str,
     /// Begins a round, and answers the number. As all calls, it leaves the desk as the host keeps it
     /// for the next one.
-    pub begin: fn(&mut Desk) -> u8,
+    pub begin: fn(u32, &mut Desk) -> u8,
     /// Sets all shares, and answers the number.
-    pub set_shares: fn(&mut Desk, Shares) -> u8,
+    pub set_shares: fn(u32, &mut Desk, Shares) -> u8,
     /// Hands in a sector's record.
-    pub hand_in: fn(&mut Desk, u32, &[u8], &mut [i32]) -> LoadReply,
+    pub hand_in: fn(u32, &mut Desk, u32, &[u8], &mut [i32]) -> LoadReply,
     /// A sector's Run.
-    pub run: fn(&mut Desk, u32, u16, &mut [i32]) -> RunReply,
+    pub run: fn(u32, &mut Desk, u32, u16, &mut [i32]) -> RunReply,
     /// A sector's Fetch, which answers the number.
-    pub fetch: fn(&mut Desk, u32, &mut [i32], &mut [u8]) -> u8,
+    pub fetch: fn(u32, &mut Desk, u32, &mut [i32], &mut [u8]) -> u8,
 }
 
 impl Contender {
@@ -67,18 +68,19 @@ pub fn ran(desk: &mut Desk, run: impl FnOnce(Desk) -> DeskRunReply) -> RunReply 
 pub const ENGINE: Contender = Contender {
     name: "engine",
     // SAFETY: the call takes and answers values alone.
-    begin: |desk| kept(desk, |desk| unsafe { ffi::hubqr_desk_begin(desk) }),
+    begin: |role, desk| kept(desk, |desk| unsafe { ffi::hubqr_desk_begin(role, desk) }),
     // SAFETY: the call takes and answers values alone.
-    set_shares: |desk, shares| {
+    set_shares: |role, desk, shares| {
         kept(desk, |desk| unsafe {
-            ffi::hubqr_desk_set_shares(desk, shares)
+            ffi::hubqr_desk_set_shares(role, desk, shares)
         })
     },
     // SAFETY: the call reads the record, and writes the area alone.
-    hand_in: |desk, sector, record, area| {
+    hand_in: |role, desk, sector, record, area| {
         let (bytes, words) = (record.len(), area.len());
         handed_in(desk, |desk| unsafe {
             ffi::hubqr_desk_hand_in(
+                role,
                 desk,
                 sector,
                 record.as_ptr(),
@@ -89,17 +91,18 @@ pub const ENGINE: Contender = Contender {
         })
     },
     // SAFETY: the call reads and writes the area alone.
-    run: |desk, sector, request, area| {
+    run: |role, desk, sector, request, area| {
         let (words, length) = (area.as_mut_ptr(), area.len());
         ran(desk, |desk| unsafe {
-            ffi::hubqr_desk_run(desk, sector, request, words, length)
+            ffi::hubqr_desk_run(role, desk, sector, request, words, length)
         })
     },
     // SAFETY: the call reads and writes the area, and writes the buffer.
-    fetch: |desk, sector, area, buffer| {
+    fetch: |role, desk, sector, area, buffer| {
         let (words, bytes) = (area.len(), buffer.len());
         kept(desk, |desk| unsafe {
             ffi::hubqr_desk_fetch(
+                role,
                 desk,
                 sector,
                 area.as_mut_ptr(),
@@ -112,24 +115,24 @@ pub const ENGINE: Contender = Contender {
 };
 
 /// The engine's own calls, for a host that keeps the jobs of its sectors and a record that waits for
-/// each, and nothing else: it has neither rounds nor shares. All others are compared with it.
+/// each, and nothing else: it has neither roles nor rounds nor shares. All others are compared with it.
 pub const BASE: Contender = Contender {
     name: "engine, no desk",
-    begin: |_| 0,
-    set_shares: |_, _| 0,
-    hand_in: |desk, sector, record, area| {
+    begin: |_, _| 0,
+    set_shares: |_, _, _| 0,
+    hand_in: |_, desk, sector, record, area| {
         let reply = load(record, area);
         desk.jobs[sector as usize] = reply.job;
         reply
     },
     // SAFETY: the call reads and writes the area alone.
-    run: |desk, sector, request, area| {
+    run: |_, desk, sector, request, area| {
         let job = &mut desk.jobs[sector as usize];
         let reply = unsafe { ffi::hubqr_run(*job, request, area.as_mut_ptr(), area.len()) };
         *job = reply.job;
         reply
     },
-    fetch: |desk, sector, area, buffer| {
+    fetch: |_, desk, sector, area, buffer| {
         let sector = sector as usize;
         let (words, bytes) = (area.len(), buffer.len());
         let (job, target) = (desk.jobs[sector], buffer.as_mut_ptr());

@@ -4,13 +4,16 @@ use std::hint::black_box;
 use std::time::Instant;
 
 use hubqr::ffi::Shares;
-use hubqr::{Desk, AREA_WORDS, FIRST_SHARE, RESULT_RECORD_BYTES, ROUND_TURNS, SECTORS};
+use hubqr::{Desk, Role, AREA_WORDS, FIRST_SHARE, RESULT_RECORD_BYTES, ROUND_TURNS, SECTORS};
 use reference::random::Random;
 
 use super::agree::loaded;
 use super::contenders::{Contender, BASE};
 use crate::contenders::{Area, Buffer, Record, ACCEPTED, ENGINE, FINISHED};
 use crate::inputs;
+
+/// Who calls, since nobody else may make all calls.
+const OPERATOR: u32 = Role::Operator.number();
 
 /// The shares that are set.
 const SHARES: Shares = Shares {
@@ -159,7 +162,7 @@ impl Hub {
         for _ in 0..SECTORS {
             match measure {
                 Measure::Run(_) => self.desk.left = [FIRST_SHARE; SECTORS],
-                Measure::Round => number |= (who.begin)(&mut self.desk),
+                Measure::Round => number |= (who.begin)(OPERATOR, &mut self.desk),
                 _ => {}
             }
             for call in 0..measure.calls() {
@@ -187,17 +190,19 @@ impl Hub {
         match measure {
             Measure::Load => {
                 desk.jobs[sector] = FINISHED;
-                (who.hand_in)(desk, k, &records[sector], area).number
+                (who.hand_in)(OPERATOR, desk, k, &records[sector], area).number
             }
-            Measure::Wait => (who.hand_in)(desk, k, &records[sector], area).number,
-            Measure::Run(_) | Measure::Round => (who.run)(desk, k, measure.request(), area).number,
-            Measure::Fetch => (who.fetch)(desk, k, area, buffer),
+            Measure::Wait => (who.hand_in)(OPERATOR, desk, k, &records[sector], area).number,
+            Measure::Run(_) | Measure::Round => {
+                (who.run)(OPERATOR, desk, k, measure.request(), area).number
+            }
+            Measure::Fetch => (who.fetch)(OPERATOR, desk, k, area, buffer),
             Measure::Next => {
                 desk.jobs[sector] = FINISHED;
                 desk.waits[sector] = 1;
-                (who.fetch)(desk, k, area, buffer)
+                (who.fetch)(OPERATOR, desk, k, area, buffer)
             }
-            Measure::Shares => (who.set_shares)(desk, black_box(SHARES)),
+            Measure::Shares => (who.set_shares)(OPERATOR, desk, black_box(SHARES)),
         }
     }
 }

@@ -55,8 +55,8 @@ pub fn words(results: &Results) -> String {
         "A time is the mean over the eight rounds of a desk that work eight matrices to the end. With \
          request 0 nothing is worked, and there are as many calls as with request 1; so often are \
          matrices handed in, results fetched and shares set. No desk is the engine's own Load, Run and \
-         Fetch, by a host that keeps the jobs and what waits, and has no shares; the ratio is to that, \
-         and nine of ten measurements lie between from and to.{}",
+         Fetch, by a host that keeps the jobs and what waits, and has neither roles nor shares; the \
+         ratio is to that, and nine of ten measurements lie between from and to.{}",
         clock(results)
     )
 }

@@ -12,11 +12,12 @@ macro_rules! compiled {
 
             extern "C" {
                 #[link_name = concat!(stringify!($prefix), "_desk_begin")]
-                fn desk_begin(desk: Desk) -> DeskReply;
+                fn desk_begin(role: u32, desk: Desk) -> DeskReply;
                 #[link_name = concat!(stringify!($prefix), "_desk_set_shares")]
-                fn desk_set_shares(desk: Desk, shares: Shares) -> DeskReply;
+                fn desk_set_shares(role: u32, desk: Desk, shares: Shares) -> DeskReply;
                 #[link_name = concat!(stringify!($prefix), "_desk_hand_in")]
                 fn desk_hand_in(
+                    role: u32,
                     desk: Desk,
                     sector: u32,
                     record: *const u8,
@@ -26,6 +27,7 @@ macro_rules! compiled {
                 ) -> DeskLoadReply;
                 #[link_name = concat!(stringify!($prefix), "_desk_run")]
                 fn desk_run(
+                    role: u32,
                     desk: Desk,
                     sector: u32,
                     request: u16,
@@ -34,6 +36,7 @@ macro_rules! compiled {
                 ) -> DeskRunReply;
                 #[link_name = concat!(stringify!($prefix), "_desk_fetch")]
                 fn desk_fetch(
+                    role: u32,
                     desk: Desk,
                     sector: u32,
                     area: *mut i32,
@@ -46,32 +49,32 @@ macro_rules! compiled {
             pub const CONTENDER: Contender = Contender {
                 name: $name,
                 // SAFETY: the call takes and answers values alone.
-                begin: |desk| kept(desk, |desk| unsafe { desk_begin(desk) }),
+                begin: |role, desk| kept(desk, |desk| unsafe { desk_begin(role, desk) }),
                 // SAFETY: the call takes and answers values alone.
-                set_shares: |desk, shares| {
-                    kept(desk, |desk| unsafe { desk_set_shares(desk, shares) })
+                set_shares: |role, desk, shares| {
+                    kept(desk, |desk| unsafe { desk_set_shares(role, desk, shares) })
                 },
                 // SAFETY: the call reads the record, and writes the area alone.
-                hand_in: |desk, sector, record, area| {
+                hand_in: |role, desk, sector, record, area| {
                     let (bytes, length) = (record.as_ptr(), record.len());
                     let (words, count) = (area.as_mut_ptr(), area.len());
                     handed_in(desk, |desk| unsafe {
-                        desk_hand_in(desk, sector, bytes, length, words, count)
+                        desk_hand_in(role, desk, sector, bytes, length, words, count)
                     })
                 },
                 // SAFETY: the call reads and writes the area alone.
-                run: |desk, sector, request, area| {
+                run: |role, desk, sector, request, area| {
                     let (words, length) = (area.as_mut_ptr(), area.len());
                     ran(desk, |desk| unsafe {
-                        desk_run(desk, sector, request, words, length)
+                        desk_run(role, desk, sector, request, words, length)
                     })
                 },
                 // SAFETY: the call reads and writes the area, and writes the buffer.
-                fetch: |desk, sector, area, buffer| {
+                fetch: |role, desk, sector, area, buffer| {
                     let (words, count) = (area.as_mut_ptr(), area.len());
                     let (bytes, length) = (buffer.as_mut_ptr(), buffer.len());
                     kept(desk, |desk| unsafe {
-                        desk_fetch(desk, sector, words, count, bytes, length)
+                        desk_fetch(role, desk, sector, words, count, bytes, length)
                     })
                 },
             };

@@ -14,11 +14,13 @@ use Rattle.covariance.specs.AddSnapshot.{addOf}
 use Rattle.covariance.specs.WriteMatrix.{writeOf}
 use Rattle.weights.specs.Weights.{weightsOf}
 use Rattle.desk.specs.declared.Desk.{Desk}
-use Rattle.desk.specs.Desk.{newDesk, beginOf}
+use Rattle.desk.specs.Desk.{newDesk}
+use Rattle.desk.specs.Roles.{viewer, operator}
 use Rattle.desk.specs.HandIn.{handInOf}
 use Rattle.desk.specs.Run.{deskRunOf}
 use Rattle.desk.specs.Fetch.{deskFetchOf}
 use Rattle.desk.specs.Heard.{deskHeardOf}
+use Rattle.desk.specs.Rounds.{beginOf}
 use Rattle.desk.specs.Shares.{setSharesOf}
 use Rattle.caller.specs.declared.HalvesReply.{HalvesReply}
 use Rattle.caller.specs.declared.AgainReply.{AgainReply}
@@ -99,15 +101,15 @@ pub record ServedOutcome : Type 0 where
   pub area : List ℤ
   pub buffer : List ℕ
 
--- at a new desk: shares for all, and the begin of a round; for one sector both hand-ins, Run with a request of 120, and Fetch
-unfoldable pub servedOf : List ℕ → ℕ → List ℕ → List ℕ → List ℤ → List ℕ → ServedOutcome
-servedOf shares sector rec following area buffer =
-    let given = setSharesOf newDesk shares in
-    let begun = beginOf (given .desk) in
-    let first = handInOf (begun .desk) sector rec area in
-    let early = handInOf (first .reply .desk) sector following (first .area) in
-    let ran = deskRunOf (early .reply .desk) sector 120 (early .area) in
-    let fetched = deskFetchOf (ran .reply .desk) sector (ran .area) buffer in
+-- at a new desk, by the operator: shares for all, and the begin of a round; for one sector both hand-ins and Run with a request of 120; and Fetch by this role
+unfoldable pub servedOf : ℕ → List ℕ → ℕ → List ℕ → List ℕ → List ℤ → List ℕ → ServedOutcome
+servedOf role shares sector rec following area buffer =
+    let given = setSharesOf operator newDesk shares in
+    let begun = beginOf operator (given .desk) in
+    let first = handInOf operator (begun .desk) sector rec area in
+    let early = handInOf operator (first .reply .desk) sector following (first .area) in
+    let ran = deskRunOf operator (early .reply .desk) sector 120 (early .area) in
+    let fetched = deskFetchOf role (ran .reply .desk) sector (ran .area) buffer in
     record {
       reply = record { set = given; begun = begun; first = first .reply; early = early .reply; run = ran .reply; fetch = fetched .reply };
       area = fetched .area;
@@ -118,9 +120,9 @@ pub record RoundOutcome : Type 0 where
   pub reply : RoundReply
   pub area : List ℤ
 
--- at any desk: the begin of a round, Run, and the heard byte
-unfoldable pub roundOf : Desk → ℕ → ℕ → List ℤ → RoundOutcome
-roundOf desk sector request area =
-    let begun = beginOf desk in
-    let ran = deskRunOf (begun .desk) sector request area in
-    record { reply = record { begun = begun; run = ran .reply; heard = deskHeardOf (ran .reply .desk) sector }; area = ran .area }
+-- at any desk: the begin of a round and Run by this role, and the heard byte for a viewer
+unfoldable pub roundOf : ℕ → Desk → ℕ → ℕ → List ℤ → RoundOutcome
+roundOf role desk sector request area =
+    let begun = beginOf role desk in
+    let ran = deskRunOf role (begun .desk) sector request area in
+    record { reply = record { begun = begun; run = ran .reply; heard = deskHeardOf viewer (ran .reply .desk) sector }; area = ran .area }

@@ -3,6 +3,8 @@
 // the replies of all calls that it makes, so that whoever calls it sees the first refusal. The words here are document 01's own.
 use desk::Desk;
 use desk::DeskReply;
+use desk::OPERATOR;
+use desk::VIEWER;
 use desk::hand_in::DeskLoadReply;
 use desk::heard::DeskHeardReply;
 use desk::run::DeskRunReply;
@@ -139,10 +141,11 @@ pub fn factor_and_weigh(
     }
 }
 
-// A sector is served at a new desk: shares for all sectors, the round from which on they count, a matrix handed in and the next one early, all turns
-// that the sector's share has, and Fetch, which brings the next one in where the share was enough. Each call is handed the desk that the one before
-// answered.
+// A sector is served at a new desk by the operator: shares for all sectors, the round from which on they count, a matrix handed in and the next one early,
+// all turns that the sector's share has; and then Fetch by any role, which for the operator brings the next one in where the share was enough. Each call is
+// handed the desk that the one before answered.
 pub fn serve_sector(
+    role: u32,
     shares: Shares,
     sector: u32,
     bytes: &[u8],
@@ -150,15 +153,15 @@ pub fn serve_sector(
     area: &mut [i32],
     buffer: &mut [u8],
 ) -> ServedReply
-    ensures { λ r. ⌜ record { reply = r; area = now (area .exit); buffer = now (buffer .exit) } ≡ servedOf (shares .shares) sector (now (bytes .entry)) (now (next .entry)) (now (area .entry)) (now (buffer .entry)) ⌝ }
+    ensures { λ r. ⌜ record { reply = r; area = now (area .exit); buffer = now (buffer .exit) } ≡ servedOf role (shares .shares) sector (now (bytes .entry)) (now (next .entry)) (now (area .entry)) (now (buffer .entry)) ⌝ }
 {
     let new = hubqr::sectors::hubqr_desk_new();
-    let set = hubqr::sectors::hubqr_desk_set_shares(new, shares);
-    let begun = hubqr::sectors::hubqr_desk_begin(set.desk);
-    let first = hubqr::sectors::hubqr_desk_hand_in(begun.desk, sector, bytes, area);
-    let early = hubqr::sectors::hubqr_desk_hand_in(first.desk, sector, next, area);
-    let run = hubqr::sectors::hubqr_desk_run(early.desk, sector, 120, area);
-    let fetch = hubqr::sectors::hubqr_desk_fetch(run.desk, sector, area, buffer);
+    let set = hubqr::sectors::hubqr_desk_set_shares(OPERATOR, new, shares);
+    let begun = hubqr::sectors::hubqr_desk_begin(OPERATOR, set.desk);
+    let first = hubqr::sectors::hubqr_desk_hand_in(OPERATOR, begun.desk, sector, bytes, area);
+    let early = hubqr::sectors::hubqr_desk_hand_in(OPERATOR, first.desk, sector, next, area);
+    let run = hubqr::sectors::hubqr_desk_run(OPERATOR, early.desk, sector, 120, area);
+    let fetch = hubqr::sectors::hubqr_desk_fetch(role, run.desk, sector, area, buffer);
     ServedReply {
         set,
         begun,
@@ -169,12 +172,18 @@ pub fn serve_sector(
     }
 }
 
-// A round begins at any desk, and a sector has turns of it, and is asked for its heard byte.
-pub fn begin_and_run(desk: Desk, sector: u32, request: u16, area: &mut [i32]) -> RoundReply
-    ensures { λ r. ⌜ record { reply = r; area = now (area .exit) } ≡ roundOf desk sector request (now (area .entry)) ⌝ }
+// By any role: a round begins at any desk, and a sector has turns of it; and a viewer asks for its heard byte.
+pub fn begin_and_run(
+    role: u32,
+    desk: Desk,
+    sector: u32,
+    request: u16,
+    area: &mut [i32],
+) -> RoundReply
+    ensures { λ r. ⌜ record { reply = r; area = now (area .exit) } ≡ roundOf role desk sector request (now (area .entry)) ⌝ }
 {
-    let begun = hubqr::sectors::hubqr_desk_begin(desk);
-    let run = hubqr::sectors::hubqr_desk_run(begun.desk, sector, request, area);
-    let heard = hubqr::sectors::hubqr_desk_heard(run.desk, sector);
+    let begun = hubqr::sectors::hubqr_desk_begin(role, desk);
+    let run = hubqr::sectors::hubqr_desk_run(role, begun.desk, sector, request, area);
+    let heard = hubqr::sectors::hubqr_desk_heard(VIEWER, run.desk, sector);
     RoundReply { begun, run, heard }
 }

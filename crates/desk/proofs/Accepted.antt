@@ -6,13 +6,17 @@ use native.Mathlib.Omega.{arith}
 use borrow.Author.Tests.{ltb-false, le-ltb, ne-eqb}
 use lib.Dec.{ltb, eqb}
 use Rattle.refusals.specs.Refusals.{failsIf}
-use Rattle.refusals.proofs.Refusals.{if-passed}
+use Rattle.refusals.proofs.Refusals.{first-none, if-passed}
 use Rattle.engine.specs.declared.job.Job.{Job}
 use Rattle.desk.specs.Desk.{sectorTest}
+use Rattle.desk.specs.Roles.{roleTest, admissionTest}
 use Rattle.desk.specs.Run.{countTest}
 
-pub sector-passed : (sector : ℕ) → sectorTest sector ≡ 0 → sector < 8
+sector-passed : (sector : ℕ) → sectorTest sector ≡ 0 → sector < 8
 sector-passed sector h = omega (arith, ltb-false 7 sector (if-passed (ltb 7 sector) 11 h))
+
+pub admitted : (may : Bool) (sector : ℕ) → admissionTest may sector ≡ 0 → sector < 8
+admitted may sector h = sector-passed sector (first-none (roleTest may) _ h .1)
 
 pub sector-passes : (sector : ℕ) → sector < 8 → sectorTest sector ≡ 0
 sector-passes sector h = rw (le-ltb 7 sector (omega arith))

@@ -13,7 +13,6 @@ use Rattle.workspace.specs.Loading.{loadedWords}
 use Rattle.engine.specs.declared.job.Job.{Job}
 use Rattle.engine.specs.Job.{loadedJob, noJob}
 use Rattle.desk.specs.declared.Desk.{Desk}
-use Rattle.desk.specs.declared.DeskReply.{DeskReply}
 
 abbrev pub sectorCount : ℕ
 sectorCount = 8
@@ -48,7 +47,7 @@ newDesk =
 abbrev pub sectorTest : ℕ → ℕ
 sectorTest sector = failsIf (ltb 7 sector) noSuchSector
 
--- above 7 there is none, and nothing is read: test 12 comes first
+-- above 7 there is none, and nothing is read: test 12 comes before
 abbrev pub jobAt : Desk → ℕ → Job
 jobAt desk sector = getD (desk .jobs) sector noJob
 
@@ -121,7 +120,3 @@ pub record Loaded : Type 0 where
 
 abbrev pub loaded : Desk → ℕ → List ℕ → List ℤ → Loaded
 loaded desk sector rec area = record { desk = seated desk sector (heardByte rec); area = loadedWords rec area }
-
--- ---- the call that begins a round
-unfoldable pub beginOf : Desk → DeskReply
-beginOf desk = record { desk = begun desk; number = 0 }

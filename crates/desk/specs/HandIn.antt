@@ -11,15 +11,16 @@ use Rattle.engine.specs.Job.{loadedJob, noJob}
 use Rattle.engine.specs.Load.{loadRefusal}
 use Rattle.desk.specs.declared.Desk.{Desk}
 use Rattle.desk.specs.declared.hand_in.DeskLoadReply.{DeskLoadReply}
-use Rattle.desk.specs.Desk.{sectorTest, jobAt, heardAt, waitsAt, kept, loaded}
+use Rattle.desk.specs.Desk.{jobAt, heardAt, waitsAt, kept, loaded}
+use Rattle.desk.specs.Roles.{mayOperate, admissionTest}
 
 pub record HandInOutcome : Type 0 where
   pub reply : DeskLoadReply
   pub area : List ℤ
 
--- test 12, and then the engine's tests for Load, with the area that is lent, also where the matrix only waits
-unfoldable pub handInRefusal : ℕ → List ℕ → List ℤ → ℕ
-handInRefusal sector rec area = first (sectorTest sector) (loadRefusal rec area)
+-- tests 15 and 12, and then the engine's tests for Load, with the area that is lent, also where the matrix only waits
+unfoldable pub handInRefusal : ℕ → ℕ → List ℕ → List ℤ → ℕ
+handInRefusal role sector rec area = first (admissionTest (mayOperate role) sector) (loadRefusal rec area)
 
 -- one waits already, or the sector's job is unfinished
 unfoldable pub mustWait : Desk → ℕ → Bool
@@ -38,5 +39,5 @@ handInBy zero false desk sector rec area =
     record { reply = record { desk = o .desk; number = 0; heard = heardByte rec; job = loadedJob }; area = o .area }
 handInBy (suc n) must desk sector rec area = record { reply = record { desk = desk; number = suc n; heard = 0; job = noJob }; area = area }
 
-unfoldable pub handInOf : Desk → ℕ → List ℕ → List ℤ → HandInOutcome
-handInOf desk sector rec area = handInBy (handInRefusal sector rec area) (mustWait desk sector) desk sector rec area
+unfoldable pub handInOf : ℕ → Desk → ℕ → List ℕ → List ℤ → HandInOutcome
+handInOf role desk sector rec area = handInBy (handInRefusal role sector rec area) (mustWait desk sector) desk sector rec area

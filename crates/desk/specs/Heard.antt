@@ -2,12 +2,13 @@
 use Prim.Native.Nat.{ℕ, zero, suc}
 use Rattle.desk.specs.declared.Desk.{Desk}
 use Rattle.desk.specs.declared.heard.DeskHeardReply.{DeskHeardReply}
-use Rattle.desk.specs.Desk.{sectorTest, heardAt}
+use Rattle.desk.specs.Desk.{heardAt}
+use Rattle.desk.specs.Roles.{mayHear, admissionTest}
 
--- by the number of test 12; the desk is as it was
+-- by the number of tests 15 and 12; the desk is as it was
 unfoldable pub deskHeardBy : ℕ → Desk → ℕ → DeskHeardReply
 deskHeardBy zero desk sector = record { desk = desk; number = 0; heard = heardAt desk sector }
 deskHeardBy (suc n) desk sector = record { desk = desk; number = suc n; heard = 0 }
 
-unfoldable pub deskHeardOf : Desk → ℕ → DeskHeardReply
-deskHeardOf desk sector = deskHeardBy (sectorTest sector) desk sector
+unfoldable pub deskHeardOf : ℕ → Desk → ℕ → DeskHeardReply
+deskHeardOf role desk sector = deskHeardBy (admissionTest (mayHear role) sector) desk sector

@@ -11,7 +11,8 @@ use Rattle.engine.specs.Job.{noJob}
 use Rattle.engine.specs.Run.{runRefusal, runDone}
 use Rattle.desk.specs.declared.Desk.{Desk}
 use Rattle.desk.specs.declared.run.DeskRunReply.{DeskRunReply}
-use Rattle.desk.specs.Desk.{sectorTest, jobAt, leftAt, paid}
+use Rattle.desk.specs.Desk.{jobAt, leftAt, paid}
+use Rattle.desk.specs.Roles.{mayOperate, admissionTest}
 
 pub record DeskRunOutcome : Type 0 where
   pub reply : DeskRunReply
@@ -21,10 +22,10 @@ pub record DeskRunOutcome : Type 0 where
 unfoldable pub countTest : Job → ℕ → ℕ → ℕ
 countTest job left request = failsIf (ltb 0 request && (ltb (job .turn) rotationCount && eqb left 0)) countUsedUp
 
--- test 12, the engine's tests for Run, and then 13
-unfoldable pub deskRunRefusal : Desk → ℕ → ℕ → List ℤ → ℕ
-deskRunRefusal desk sector request area =
-    first (sectorTest sector) (first (runRefusal (jobAt desk sector) area) (countTest (jobAt desk sector) (leftAt desk sector) request))
+-- tests 15 and 12, the engine's tests for Run, and then 13
+unfoldable pub deskRunRefusal : ℕ → Desk → ℕ → ℕ → List ℤ → ℕ
+deskRunRefusal role desk sector request area =
+    first (admissionTest (mayOperate role) sector) (first (runRefusal (jobAt desk sector) area) (countTest (jobAt desk sector) (leftAt desk sector) request))
 
 -- the smallest of the request, the sector's own count and what its job has left
 abbrev pub grant : Job → ℕ → ℕ → ℕ
@@ -46,5 +47,5 @@ deskRunBy zero desk sector request area = deskRunDone desk sector (grant (jobAt 
 deskRunBy (suc n) desk sector request area =
     record { reply = record { desk = desk; number = suc n; job = noJob; count = 0; «clamps_r» = 0; «clamps_q» = 0 }; area = area }
 
-unfoldable pub deskRunOf : Desk → ℕ → ℕ → List ℤ → DeskRunOutcome
-deskRunOf desk sector request area = deskRunBy (deskRunRefusal desk sector request area) desk sector request area
+unfoldable pub deskRunOf : ℕ → Desk → ℕ → ℕ → List ℤ → DeskRunOutcome
+deskRunOf role desk sector request area = deskRunBy (deskRunRefusal role desk sector request area) desk sector request area

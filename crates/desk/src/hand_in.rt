@@ -1,9 +1,10 @@
 // The hand-in of a matrix for a sector, in the place of Load: it is loaded, or it waits for the sector's job to be fetched.
 use crate::Desk;
+use crate::roles::admission_refusal;
+use crate::roles::may_operate;
 use crate::sector::heard_at;
 use crate::sector::job_at;
 use crate::sector::seated;
-use crate::sector::sector_refusal;
 use crate::waiting::kept;
 use crate::waiting::take_in;
 use crate::waiting::waits_at;
@@ -25,12 +26,13 @@ pub struct DeskLoadReply {
 }
 
 // The number of the first test that fails, 0 for none.
-fn hand_in_refusal(sector: u32, bytes: &[u8], area: &[i32]) -> u8
-    ensures { λ r. ⌜ r ≡ handInRefusal sector (now (bytes .entry)) (now (area .entry)) ⌝ }
+fn hand_in_refusal(role: u32, sector: u32, bytes: &[u8], area: &[i32]) -> u8
+    ensures { λ r. ⌜ r ≡ handInRefusal role sector (now (bytes .entry)) (now (area .entry)) ⌝ }
 {
-    let unknown = sector_refusal(sector);
-    if unknown != 0 {
-        return unknown;
+    let may = may_operate(role);
+    let refused = admission_refusal(may, sector);
+    if refused != 0 {
+        return refused;
     }
     engine::load::load_refusal(bytes, area)
 }
@@ -64,10 +66,10 @@ fn wait(desk: Desk, sector: u32, bytes: &[u8]) -> DeskLoadReply
 }
 
 // Hands in a matrix record for a sector, or refuses and changes nothing.
-pub fn hand_in(desk: Desk, sector: u32, bytes: &[u8], area: &mut [i32]) -> DeskLoadReply
-    ensures { λ r. ⌜ record { reply = r; area = now (area .exit) } ≡ handInOf desk sector (now (bytes .entry)) (now (area .entry)) ⌝ }
+pub fn hand_in(role: u32, desk: Desk, sector: u32, bytes: &[u8], area: &mut [i32]) -> DeskLoadReply
+    ensures { λ r. ⌜ record { reply = r; area = now (area .exit) } ≡ handInOf role desk sector (now (bytes .entry)) (now (area .entry)) ⌝ }
 {
-    let number = hand_in_refusal(sector, bytes, area);
+    let number = hand_in_refusal(role, sector, bytes, area);
     if number != 0 {
         return DeskLoadReply {
             desk,

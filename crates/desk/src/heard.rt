@@ -1,7 +1,8 @@
-// The heard byte of a sector.
+// The heard byte of a sector, for all three roles.
 use crate::Desk;
+use crate::roles::admission_refusal;
+use crate::roles::may_hear;
 use crate::sector::heard_at;
-use crate::sector::sector_refusal;
 ghost use mathlib.Core.Path.{_≡_};
 ghost use Rattle.desk.specs.Heard.{deskHeardOf};
 
@@ -14,10 +15,11 @@ pub struct DeskHeardReply {
 }
 
 // The sector's heard byte, or a refusal.
-pub fn heard(desk: Desk, sector: u32) -> DeskHeardReply
-    ensures { λ r. ⌜ r ≡ deskHeardOf desk sector ⌝ }
+pub fn heard(role: u32, desk: Desk, sector: u32) -> DeskHeardReply
+    ensures { λ r. ⌜ r ≡ deskHeardOf role desk sector ⌝ }
 {
-    let number = sector_refusal(sector);
+    let may = may_hear(role);
+    let number = admission_refusal(may, sector);
     if number != 0 {
         return DeskHeardReply {
             desk,

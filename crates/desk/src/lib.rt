@@ -1,9 +1,11 @@
 // A desk for eight sectors over the engine: each sector has its own job, heard byte and area, its own share of a round, and room for one matrix that waits.
-// The host keeps the desk and hands it to each call, which answers it anew. Each call tests its own input and refuses by the number of the first test that
-// fails, with the desk and every lent buffer as they were and all other fields 0.
+// The host keeps the desk and hands it to each call, which answers it anew. Each call but the making of a new desk is handed the role of whoever makes it,
+// tests its own input and refuses by the number of the first test that fails, with the desk and every lent buffer as they were and all other fields 0.
 pub mod fetch;
 pub mod hand_in;
 pub mod heard;
+mod roles;
+pub mod rounds;
 pub mod run;
 mod sector;
 pub mod shares;
@@ -11,13 +13,20 @@ mod waiting;
 
 use engine::job::Job;
 ghost use mathlib.Core.Path.{_≡_};
-ghost use Rattle.desk.specs.Desk.{newDesk, beginOf};
+ghost use Rattle.desk.specs.Desk.{newDesk};
 
 // What the shares of all sectors make at most, and so the turns of a round.
 pub const ROUND_TURNS: u16 = 120;
 
 // The share of each sector at first.
 pub const FIRST_SHARE: u16 = 15;
+
+// The roles. A viewer gets the heard byte and nothing else, a fitter the result record too, and the operator may also hand in, run, begin rounds and set shares.
+pub const VIEWER: u32 = 0;
+
+pub const FITTER: u32 = 1;
+
+pub const OPERATOR: u32 = 2;
 
 // Of each sector the job, the heard byte, the share, the turns that it has left in the round, whether a matrix waits (0 is no, any other number is yes),
 // and its record: 257 bytes from 257 times the sector on.
@@ -51,18 +60,5 @@ pub fn new() -> Desk
         left: [FIRST_SHARE; 8],
         waits: [0; 8],
         records: [0; 2056],
-    }
-}
-
-// Begins a round: each sector's count is refilled from its share.
-pub fn begin(desk: Desk) -> DeskReply
-    ensures { λ r. ⌜ r ≡ beginOf desk ⌝ }
-{
-    let shares = desk.shares;
-    let mut begun = desk;
-    begun.left = shares;
-    DeskReply {
-        desk: begun,
-        number: 0,
     }
 }

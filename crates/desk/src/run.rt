@@ -1,9 +1,10 @@
 // Run for a sector: turns of its own count for its job.
 use crate::Desk;
+use crate::roles::admission_refusal;
+use crate::roles::may_operate;
 use crate::sector::job_at;
 use crate::sector::left_at;
 use crate::sector::paid;
-use crate::sector::sector_refusal;
 use engine::job::Job;
 ghost use mathlib.Core.Path.{_≡_};
 ghost use Prim.Native.Nat.{min};
@@ -38,17 +39,18 @@ fn count_refusal(job: Job, left: u16, request: u16) -> u8
 }
 
 // The number of the first test that fails, 0 for none.
-fn run_refusal(desk: Desk, sector: u32, request: u16, area: &[i32]) -> u8
-    ensures { λ r. ⌜ r ≡ deskRunRefusal desk sector request (now (area .entry)) ⌝ }
+fn run_refusal(role: u32, desk: Desk, sector: u32, request: u16, area: &[i32]) -> u8
+    ensures { λ r. ⌜ r ≡ deskRunRefusal role desk sector request (now (area .entry)) ⌝ }
 {
-    let unknown = sector_refusal(sector);
-    if unknown != 0 {
-        return unknown;
-    }
-    let job = job_at(desk, sector);
-    let refused = engine::run::run_refusal(job, area);
+    let may = may_operate(role);
+    let refused = admission_refusal(may, sector);
     if refused != 0 {
         return refused;
+    }
+    let job = job_at(desk, sector);
+    let number = engine::run::run_refusal(job, area);
+    if number != 0 {
+        return number;
     }
     let left = left_at(desk, sector);
     count_refusal(job, left, request)
@@ -61,10 +63,10 @@ fn smaller(a: u16, b: u16) -> u16
 }
 
 // Takes the smallest of the request, what the sector has left in the round and what its job has left; or refuses and changes nothing.
-pub fn run(desk: Desk, sector: u32, request: u16, area: &mut [i32]) -> DeskRunReply
-    ensures { λ r. ⌜ record { reply = r; area = now (area .exit) } ≡ deskRunOf desk sector request (now (area .entry)) ⌝ }
+pub fn run(role: u32, desk: Desk, sector: u32, request: u16, area: &mut [i32]) -> DeskRunReply
+    ensures { λ r. ⌜ record { reply = r; area = now (area .exit) } ≡ deskRunOf role desk sector request (now (area .entry)) ⌝ }
 {
-    let number = run_refusal(desk, sector, request, area);
+    let number = run_refusal(role, desk, sector, request, area);
     if number != 0 {
         return DeskRunReply {
             desk,

@@ -2,9 +2,11 @@
 use crate::Desk;
 use crate::DeskReply;
 use crate::ROUND_TURNS;
+use crate::roles::may_operate;
+use crate::roles::role_refusal;
 ghost use mathlib.Core.Path.{_≡_};
 ghost use Prim.Native.Nat.{_≤_};
-ghost use Rattle.desk.specs.Shares.{totalOf, sharesTest, setSharesOf};
+ghost use Rattle.desk.specs.Shares.{totalOf, sharesTest, setSharesRefusal, setSharesOf};
 
 // The share of sector k at place k.
 #[repr(C)]
@@ -39,12 +41,24 @@ fn shares_refusal(shares: [u16; 8]) -> u8
     0
 }
 
+// The number of the first test that fails, 0 for none.
+fn set_shares_refusal(role: u32, shares: [u16; 8]) -> u8
+    ensures { λ r. ⌜ r ≡ setSharesRefusal role shares ⌝ }
+{
+    let may = may_operate(role);
+    let refused = role_refusal(may);
+    if refused != 0 {
+        return refused;
+    }
+    shares_refusal(shares)
+}
+
 // Sets all eight shares, which count from the next round on; or refuses and changes nothing.
-pub fn set_shares(desk: Desk, shares: Shares) -> DeskReply
-    ensures { λ r. ⌜ r ≡ setSharesOf desk (shares .shares) ⌝ }
+pub fn set_shares(role: u32, desk: Desk, shares: Shares) -> DeskReply
+    ensures { λ r. ⌜ r ≡ setSharesOf role desk (shares .shares) ⌝ }
 {
     let all = shares.shares;
-    let number = shares_refusal(all);
+    let number = set_shares_refusal(role, all);
     if number != 0 {
         return DeskReply { desk, number };
     }

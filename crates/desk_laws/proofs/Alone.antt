@@ -6,15 +6,15 @@ use Prim.Native.Nat.{ℕ, zero, suc, _<_}
 use native.Mathlib.Omega.{arith}
 use Rattle.lists.specs.Histories.{afterAll}
 use Rattle.lists.proofs.Histories.{after-append, Along, along-of}
-use Rattle.refusals.proofs.Refusals.{first-none}
 use Rattle.engine.specs.Load.{loadRefusal, loadBy, loadOf}
-use Rattle.engine.specs.Run.{runRefusal, runDone}
+use Rattle.engine.specs.Run.{runDone}
 use Rattle.engine.proofs.Accepted.{fetch-accepted}
+use Rattle.desk.specs.Roles.{mayHear, roleTest}
 use Rattle.engine.proofs.Taken.{all-taken}
 use Rattle.desk_laws.specs.Calls.{Lent, its, another, Call, handIn, run, fetch, heard, begin, setShares, Hub, new, lentWords, loadsIf, loads, Answer, answer, next, after, Accepted, Kind, own, other, round, setting, kind, Its, LentIts, OwnLent, EachLentIts}
 use Rattle.desk_laws.specs.Ledger.{Handed, Ledger, fresh, ifAccepted, noted}
 use Rattle.desk_laws.specs.Alone.{Alone, loading, aloneNext, aloneAfter, loadWork, worksOf, works, standing, AsAlone}
-use Rattle.desk_laws.proofs.Seats.{Seat, seat, Eight, loadedSeat, handSeat, runSeat, fetchSeat, handNumber, seatMustWait, runNumber, fetchNumber, seatGrant, ownNext, ownLoads, handAnswer, runAnswer, fetchAnswer, ownAnswer, step, seat-next, own-answer, own-loads, eight-next, eight-new}
+use Rattle.desk_laws.proofs.Seats.{Seat, seat, Eight, loadedSeat, handSeat, runSeat, fetchSeat, handNumber, seatMustWait, runNumber, fetchNumber, seatBrings, seatGrant, hand-passed, run-passed, fetch-passed, brought-waits, ownNext, ownLoads, handAnswer, runAnswer, fetchAnswer, heardAnswer, ownAnswer, step, seat-next, own-answer, own-loads, eight-next, eight-new}
 use Rattle.desk_laws.proofs.Ledgers.{Noted, own-entry, noted-next, noted-new}
 
 abbrev pub aloneOf : Seat → Alone
@@ -27,52 +27,60 @@ loaded-alone a rec e = rw e
 
 module _ (a : Seat) (g : Ledger) (x : Noted g a) where
   -- a hand-in, which is loaded or waits
-  hand-alone : (j : ℕ) (rec : List ℕ) (lent : Lent) (n : ℕ) (must : Bool) → handNumber a rec lent ≡ n
+  hand-alone : (role j : ℕ) (rec : List ℕ) (lent : Lent) (n : ℕ) (must : Bool) → handNumber role a rec lent ≡ n
       → (let r = handAnswer n must a rec (lentWords (a .area) lent) in
-      let c = handIn j rec lent in
+      let c = handIn role j rec lent in
       let b = loadsIf n (not must) in
       (r .number ≡ 0 → Its lent) → aloneOf (handSeat n must a rec lent) ≡ aloneAfter (aloneOf a) (worksOf own (r .number) b (ifAccepted (r .number) b c g .source) c (r .count)))
   unfolding afterAll
-  hand-alone j rec lent zero true e u = refl
-  hand-alone j rec its zero false e u = loaded-alone a rec e
-  hand-alone j rec (another m) zero false e u = absurd (u refl)
-  hand-alone j rec lent (suc n) must e u = refl
+  hand-alone role j rec lent zero true e u = refl
+  hand-alone role j rec its zero false e u = loaded-alone a rec (hand-passed role a rec its e)
+  hand-alone role j rec (another m) zero false e u = absurd (u refl)
+  hand-alone role j rec lent (suc n) must e u = refl
 
   -- its Run with turns that the job has left
-  run-alone : (j request : ℕ) (lent : Lent) (n : ℕ) → runNumber a request lent ≡ n
+  run-alone : (role j request : ℕ) (lent : Lent) (n : ℕ) → runNumber role a request lent ≡ n
       → (let r = runAnswer n (a .job) (seatGrant a request) (lentWords (a .area) lent) in
-      let c = run j request lent in
+      let c = run role j request lent in
       (r .number ≡ 0 → Its lent) → aloneOf (runSeat n a (seatGrant a request) lent) ≡ aloneAfter (aloneOf a) (worksOf own (r .number) false (ifAccepted (r .number) false c g .source) c (r .count)))
   unfolding afterAll aloneNext runDone
-  run-alone j request its zero e u =
-      rw (all-taken (a .job) (seatGrant a request) (a .area) (first-none (runRefusal (a .job) (a .area)) _ e .0) (omega arith))
-  run-alone j request (another m) zero e u = absurd (u refl)
-  run-alone j request lent (suc n) e u = refl
+  run-alone role j request its zero e u =
+      rw (all-taken (a .job) (seatGrant a request) (a .area) (run-passed role a request its e) (omega arith))
+  run-alone role j request (another m) zero e u = absurd (u refl)
+  run-alone role j request lent (suc n) e u = refl
 
   -- its Fetch, which is no work but for the Load of the one that waits
-  fetch-alone : (j : ℕ) (buffer : List ℕ) (lent : Lent) (n : ℕ) (waits : Bool) → fetchNumber a buffer lent ≡ n → a .waits ≡ waits
-      → (let r = fetchAnswer n waits (a .waiting) (lentWords (a .area) lent) buffer in
-      let c = fetch j buffer lent in
-      let b = loadsIf n waits in
-      (r .number ≡ 0 → Its lent) → aloneOf (fetchSeat n waits a lent) ≡ aloneAfter (aloneOf a) (worksOf own (r .number) b (ifAccepted (r .number) b c g .source) c (r .count)))
+  fetch-alone : (role j : ℕ) (buffer : List ℕ) (lent : Lent) (n : ℕ) (brought : Bool) → fetchNumber role a buffer lent ≡ n → (brought ≡ true → a .waits ≡ true)
+      → (let r = fetchAnswer n brought (a .waiting) (lentWords (a .area) lent) buffer in
+      let c = fetch role j buffer lent in
+      let b = loadsIf n brought in
+      (r .number ≡ 0 → Its lent) → aloneOf (fetchSeat n brought a lent) ≡ aloneAfter (aloneOf a) (worksOf own (r .number) b (ifAccepted (r .number) b c g .source) c (r .count)))
   unfolding afterAll
-  fetch-alone j buffer its zero true e f u =
-      let w = x .waiting f in
-      loaded-alone a (a .waiting) (w .passes (a .area) (fetch-accepted (a .job) (a .area) buffer e .room))
+  fetch-alone role j buffer its zero true e f u =
+      let w = x .waiting (f refl) in
+      loaded-alone a (a .waiting) (w .passes (a .area) (fetch-accepted (a .job) (a .area) buffer (fetch-passed role a buffer its e .1) .room))
       ∙ ap (λ (m : Handed). aloneAfter (aloneOf a) (loadWork true m ++ [])) (sym (w .handed))
-  fetch-alone j buffer (another m) zero true e f u = absurd (u refl)
-  fetch-alone j buffer lent zero false e f u = refl
-  fetch-alone j buffer lent (suc n) waits e f u = refl
+  fetch-alone role j buffer (another m) zero true e f u = absurd (u refl)
+  fetch-alone role j buffer lent zero false e f u = refl
+  fetch-alone role j buffer lent (suc n) brought e f u = refl
+
+  heard-alone : (role j n : ℕ)
+      → (let r = heardAnswer n (a .heard) in
+      let c = heard role j in
+      aloneOf a ≡ aloneAfter (aloneOf a) (worksOf own (r .number) false (ifAccepted (r .number) false c g .source) c (r .count)))
+  unfolding afterAll
+  heard-alone role j zero = refl
+  heard-alone role j (suc n) = refl
 
   own-alone : (c : Call) → (ownAnswer a c .number ≡ 0 → LentIts c)
       → aloneOf (ownNext a c) ≡ aloneAfter (aloneOf a) (worksOf own (ownAnswer a c .number) (ownLoads a c) (ifAccepted (ownAnswer a c .number) (ownLoads a c) c g .source) c (ownAnswer a c .count))
   unfolding afterAll
-  own-alone (handIn j rec lent) u = hand-alone j rec lent (handNumber a rec lent) (seatMustWait a) refl u
-  own-alone (run j request lent) u = run-alone j request lent (runNumber a request lent) refl u
-  own-alone (fetch j buffer lent) u = fetch-alone j buffer lent (fetchNumber a buffer lent) (a .waits) refl refl u
-  own-alone (heard j) u = refl
-  own-alone begin u = refl
-  own-alone (setShares shares eight) u = refl
+  own-alone (handIn role j rec lent) u = hand-alone role j rec lent (handNumber role a rec lent) (seatMustWait a) refl u
+  own-alone (run role j request lent) u = run-alone role j request lent (runNumber role a request lent) refl u
+  own-alone (fetch role j buffer lent) u = fetch-alone role j buffer lent (fetchNumber role a buffer lent) (seatBrings role a) refl (brought-waits role a) u
+  own-alone (heard role j) u = heard-alone role j (roleTest (mayHear role))
+  own-alone (begin role) u = refl
+  own-alone (setShares role shares eight) u = refl
 
 module _ (i : ℕ) (small : i < 8) where
   by-kind : (h : Hub) (c : Call) (g : Ledger) (k : Kind) → kind i c ≡ k → Eight (h .desk) → Noted g (seat i h) → (k ≡ own → Accepted h c → LentIts c)

@@ -11,12 +11,12 @@ use Rattle.desk_laws.proofs.Seats.{Seat, seat, Eight, runSeat, runNumbe
 
 -- a call that neither hands in nor fetches
 abbrev pub Works : Call → Type 0
-Works (handIn i rec lent) = ⊥
-Works (run i request lent) = Unit {0}
-Works (fetch i buffer lent) = ⊥
-Works (heard i) = Unit {0}
-Works begin = Unit {0}
-Works (setShares shares eight) = Unit {0}
+Works (handIn role i rec lent) = ⊥
+Works (run role i request lent) = Unit {0}
+Works (fetch role i buffer lent) = ⊥
+Works (heard role i) = Unit {0}
+Works (begin role) = Unit {0}
+Works (setShares role shares eight) = Unit {0}
 
 abbrev pub Calm : ℕ → Hub → Call → Type 0
 Calm i h c = kind i c ≡ own → Works c
@@ -34,12 +34,12 @@ run-waits a request lent zero = refl
 run-waits a request lent (suc n) = refl
 
 own-waits : (a : Seat) (c : Call) → Works c → ownNext a c .waits ≡ a .waits
-own-waits a (handIn j rec lent) x = absurd x
-own-waits a (run j request lent) x = run-waits a request lent (runNumber a request lent)
-own-waits a (fetch j buffer lent) x = absurd x
-own-waits a (heard j) x = refl
-own-waits a begin x = refl
-own-waits a (setShares shares eight) x = refl
+own-waits a (handIn role j rec lent) x = absurd x
+own-waits a (run role j request lent) x = run-waits a request lent (runNumber role a request lent)
+own-waits a (fetch role j buffer lent) x = absurd x
+own-waits a (heard role j) x = refl
+own-waits a (begin role) x = refl
+own-waits a (setShares role shares eight) x = refl
 
 -- what is noted of it
 record Same (g g′ : Ledger) : Type 0 where
@@ -52,24 +52,24 @@ unchanged g = record { handed = refl; source = refl; its = λ u. u }
 
 entered-same : (g : Ledger) (c : Call) (n : ℕ) → Works c → (n ≡ 0 → LentIts c) → Same g (ifAccepted n false c g)
 unfolding EachIts
-entered-same g (handIn j rec lent) n x u = absurd x
-entered-same g (run j request lent) zero x u = record { handed = refl; source = refl; its = λ v. (u refl, v) }
-entered-same g (run j request lent) (suc n) x u = unchanged g
-entered-same g (fetch j buffer lent) n x u = absurd x
-entered-same g (heard j) zero x u = record { handed = refl; source = refl; its = λ v. (tt, v) }
-entered-same g (heard j) (suc n) x u = unchanged g
-entered-same g begin zero x u = record { handed = refl; source = refl; its = λ v. (tt, v) }
-entered-same g begin (suc n) x u = unchanged g
-entered-same g (setShares shares eight) zero x u = record { handed = refl; source = refl; its = λ v. (tt, v) }
-entered-same g (setShares shares eight) (suc n) x u = unchanged g
+entered-same g (handIn role j rec lent) n x u = absurd x
+entered-same g (run role j request lent) zero x u = record { handed = refl; source = refl; its = λ v. (u refl, v) }
+entered-same g (run role j request lent) (suc n) x u = unchanged g
+entered-same g (fetch role j buffer lent) n x u = absurd x
+entered-same g (heard role j) zero x u = record { handed = refl; source = refl; its = λ v. (tt, v) }
+entered-same g (heard role j) (suc n) x u = unchanged g
+entered-same g (begin role) zero x u = record { handed = refl; source = refl; its = λ v. (tt, v) }
+entered-same g (begin role) (suc n) x u = unchanged g
+entered-same g (setShares role shares eight) zero x u = record { handed = refl; source = refl; its = λ v. (tt, v) }
+entered-same g (setShares role shares eight) (suc n) x u = unchanged g
 
 works-loads : (h : Hub) (c : Call) → Works c → loads h c ≡ false
-works-loads h (handIn j rec lent) x = absurd x
-works-loads h (run j request lent) x = refl
-works-loads h (fetch j buffer lent) x = absurd x
-works-loads h (heard j) x = refl
-works-loads h begin x = refl
-works-loads h (setShares shares eight) x = refl
+works-loads h (handIn role j rec lent) x = absurd x
+works-loads h (run role j request lent) x = refl
+works-loads h (fetch role j buffer lent) x = absurd x
+works-loads h (heard role j) x = refl
+works-loads h (begin role) x = refl
+works-loads h (setShares role shares eight) x = refl
 
 module _ (i : ℕ) (small : i < 8) where
   waits-next : (h : Hub) (c : Call) (k : Kind) → kind i c ≡ k → Calm i h c → step k c (seat i h) .waits ≡ seat i h .waits

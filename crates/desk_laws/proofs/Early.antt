@@ -1,5 +1,5 @@
 -- The premises can be met: two matrices, the second handed in early, come out of a sector one after the other. Assumes nothing.
-use mathlib.Core.Path.{_≡_, sym, ap, ap₂, _∙_, subst}
+use mathlib.Core.Path.{_≡_, refl, sym, ap, ap₂, _∙_, subst}
 use mathlib.Core.Bool.{Bool, true, false, not, _||_}
 use mathlib.Core.List.{List, [], _∷_, _++_}
 use Prim.Native.Nat.{ℕ, _+_, _*_, _≤_, _<_}
@@ -11,16 +11,20 @@ use lib.ListN.{length, getD}
 use Rattle.lists.specs.Histories.{afterAll, Place}
 use Rattle.lists.proofs.Histories.{after-append, Along, each-of}
 use Rattle.accuracy.specs.Demand3.{Load}
+use Rattle.desk.specs.declared.Desk.{Desk}
 use Rattle.desk.specs.Desk.{jobAt, waitsAt}
+use Rattle.desk.specs.Roles.{fitter, operator, mayFetch}
 use Rattle.desk.specs.Fetch.{deskFetchRefusal}
 use Rattle.desk_laws.specs.Calls.{its, Call, handIn, fetch, Hub, new, loadsIf, next, after, other, kind, Loads, NoLoad, EachNoLoad}
 use Rattle.desk_laws.specs.Ledger.{matrix, Ledger, fresh, ifAccepted, noted, ledgerAfter, ledger, EachIts}
 use Rattle.desk_laws.specs.Finish.{Undisturbed, EachUndisturbed, EachRequests}
 use Rattle.desk_laws.specs.Results.{InStep}
+use Rattle.desk_laws.specs.Views.{Untouched}
 use Rattle.desk_laws.specs.Served.{giving, requesting}
 use Rattle.desk_laws.specs.Early.{rounds, underWay, early, bothWorked, ComesOut, BothComeOut}
 use Rattle.desk_laws.proofs.Seats.{Seat, seat, Eight, keptSeat, loadedSeat, handSeat, fetchSeat, handNumber, seatMustWait, fetchNumber, hand-number-is, fetch-number-is, own-kind, own-next, own-loads, eight-next, eight-after, eight-new}
 use Rattle.desk_laws.proofs.Ledgers.{passes-again, same-record, own-entry, noted-all, ledger-append}
+use Rattle.desk_laws.proofs.Views.{only-operator-changes}
 use Rattle.desk_laws.proofs.Calm.{Stays, calm-after}
 use Rattle.desk_laws.proofs.Results.{number-own, results-accurate}
 use Rattle.desk_laws.proofs.Served.{Ready, loaded-ready, Going, all-went, rounds-calm, no-load, given-eight, loaded-seat, at-start, entry-is}
@@ -37,13 +41,13 @@ module _ (i s : ℕ) (small : i < 8) (positive : 0 < s) (others : List Call) (no
 module _ (i s : ℕ) (small : i < 8) (positive : 0 < s) (fits : s ≤ 120) (areas : ℕ → List ℤ) (l later : Load) (same : l .lent ≡ areas i) (others : List Call) (none : (c : Call) → Place c others → kind i c ≡ other) (k m : ℕ) (unfinished : k * s < 120) (enough : 120 ≤ (k + m) * s) (buffer : List ℕ) (space : 2049 ≤ length buffer) where
   -- ---- the first is under way
   abbrev first-hub : Hub
-  first-hub = next (next (new areas) (giving i s)) (handIn i (l .bytes) its)
+  first-hub = next (next (new areas) (giving i s)) (handIn operator i (l .bytes) its)
 
   abbrev first-ledger : Ledger
-  first-ledger = noted i (next (new areas) (giving i s)) (handIn i (l .bytes) its) (noted i (new areas) (giving i s) fresh)
+  first-ledger = noted i (next (new areas) (giving i s)) (handIn operator i (l .bytes) its) (noted i (new areas) (giving i s) fresh)
 
   first-eight : Eight (first-hub .desk)
-  first-eight = eight-next (next (new areas) (giving i s)) (handIn i (l .bytes) its) (given-eight i s small positive fits areas l same others none k)
+  first-eight = eight-next (next (new areas) (giving i s)) (handIn operator i (l .bytes) its) (given-eight i s small positive fits areas l same others none k)
 
   first-ready : Ready s 0 (seat i first-hub)
   first-ready = at-start i s small positive fits areas l same others none k
@@ -69,7 +73,7 @@ module _ (i s : ℕ) (small : i < 8) (positive : 0 < s) (fits : s ≤ 120) (area
 
   -- ---- the second is handed in
   abbrev second : Call
-  second = handIn i (later .bytes) its
+  second = handIn operator i (later .bytes) its
 
   must-wait : seatMustWait (seat i way-hub) ≡ true
   must-wait =
@@ -77,7 +81,7 @@ module _ (i s : ℕ) (small : i < 8) (positive : 0 < s) (fits : s ≤ 120) (area
       ap₂ _||_ (way-calm .waits ∙ ap (λ (a : Seat). a .waits) (loaded-seat i s small positive fits areas l same others none k))
       (lt-ltb (seat i way-hub .job .turn) 120 (omega (arith, t, unfinished)))
 
-  second-passes : handNumber (seat i way-hub) (later .bytes) its ≡ 0
+  second-passes : handNumber operator (seat i way-hub) (later .bytes) its ≡ 0
   second-passes = passes-again (later .bytes) (later .lent) (way-hub .area i) (later .accepted) (way-ready .room)
 
   abbrev kept-hub : Hub
@@ -149,27 +153,36 @@ module _ (i s : ℕ) (small : i < 8) (positive : 0 < s) (fits : s ≤ 120) (area
   early-turn : 120 ≤ jobAt (early-hub .desk) i .turn
   early-turn = let t = early-ready .turn in omega (arith, t, enough, add-mul k m s)
 
-  first-comes : ComesOut i areas early-calls buffer (l .bytes)
-  first-comes =
-      let f = results-accurate i areas early-calls buffer (l .bytes) small early-in-step in
-      let z = f .accepted .1 (early-turn, space) in
+  comes-for : (role : ℕ) → mayFetch role ≡ true → ComesOut role i areas early-calls buffer (l .bytes)
+  comes-for role may =
+      let f = results-accurate role i areas early-calls buffer (l .bytes) small early-in-step in
+      let z = f .accepted .1 (may, early-turn, space) in
       record {
         accepted = z;
         in-step = early-in-step;
         result = f .result z;
       }
 
+  first-comes : ComesOut operator i areas early-calls buffer (l .bytes)
+  first-comes = comes-for operator refl
+
+  fitter-leaves : Untouched early-hub (fetch fitter i buffer its)
+  fitter-leaves = only-operator-changes early-hub (fetch fitter i buffer its) refl
+
+  still-waits : waitsAt (next early-hub (fetch fitter i buffer its) .desk) i ≡ true
+  still-waits = ap (λ (d : Desk). waitsAt d i) (fitter-leaves .desk) ∙ early-waits
+
   -- ---- the second comes in
   abbrev fetching : Call
-  fetching = fetch i buffer its
+  fetching = fetch operator i buffer its
 
   early-eight : Eight (early-hub .desk)
   early-eight = eight-after (new areas) early-calls (eight-new areas)
 
-  fetch-passed : fetchNumber (seat i early-hub) buffer its ≡ 0
-  fetch-passed = sym (number-own i small early-hub early-eight buffer) ∙ first-comes .accepted
+  fetch-passed : fetchNumber operator (seat i early-hub) buffer its ≡ 0
+  fetch-passed = sym (number-own operator i small early-hub early-eight buffer) ∙ first-comes .accepted
 
-  brings-in : loadsIf (fetchNumber (seat i early-hub) buffer its) (seat i early-hub .waits) ≡ true
+  brings-in : loadsIf (fetchNumber operator (seat i early-hub) buffer its) (seat i early-hub .waits) ≡ true
   brings-in = ap₂ loadsIf fetch-passed early-waits
 
   brought : Loads i early-hub fetching
@@ -243,10 +256,10 @@ module _ (i s : ℕ) (small : i < 8) (positive : 0 < s) (fits : s ≤ 120) (area
   both-turn : 120 ≤ jobAt (both-hub .desk) i .turn
   both-turn = subst (λ (h : Hub). 120 ≤ jobAt (h .desk) i .turn) (sym both-is) (let t = brought-went .0 .ready .turn in omega (arith, t, enough))
 
-  second-comes : ComesOut i areas both-calls buffer (later .bytes)
+  second-comes : ComesOut operator i areas both-calls buffer (later .bytes)
   second-comes =
-      let f = results-accurate i areas both-calls buffer (later .bytes) small both-in-step in
-      let z = f .accepted .1 (both-turn, space) in
+      let f = results-accurate operator i areas both-calls buffer (later .bytes) small both-in-step in
+      let z = f .accepted .1 (refl, both-turn, space) in
       record {
         accepted = z;
         in-step = both-in-step;
@@ -262,10 +275,10 @@ module _ (i s : ℕ) (small : i < 8) (positive : 0 < s) (fits : s ≤ 120) (area
 
   once-more : EachNoLoad i both-hub (fetching ∷ [])
   unfolding EachNoLoad Along
-  once-more = each-of next (NoLoad i) both-hub (fetching ∷ []) (λ o. no-load (deskFetchRefusal _ i _ buffer) none-waits, tt)
+  once-more = each-of next (NoLoad i) both-hub (fetching ∷ []) (λ o. no-load (deskFetchRefusal operator _ i _ buffer) none-waits, tt)
 
-  both-passed : fetchNumber (seat i both-hub) buffer its ≡ 0
-  both-passed = sym (number-own i small both-hub both-eight buffer) ∙ second-comes .accepted
+  both-passed : fetchNumber operator (seat i both-hub) buffer its ≡ 0
+  both-passed = sym (number-own operator i small both-hub both-eight buffer) ∙ second-comes .accepted
 
   again-seat : seat i (next both-hub fetching) ≡ seat i both-hub
   again-seat =
@@ -289,10 +302,10 @@ module _ (i s : ℕ) (small : i < 8) (positive : 0 < s) (fits : s ≤ 120) (area
       subst (λ (h : Hub). 120 ≤ jobAt (h .desk) i .turn) (sym (after-append next (new areas) both-calls (fetching ∷ [])))
       (subst (λ (a : Seat). 120 ≤ a .job .turn) (sym again-seat) both-turn)
 
-  comes-again : ComesOut i areas (both-calls ++ fetching ∷ []) buffer (later .bytes)
+  comes-again : ComesOut operator i areas (both-calls ++ fetching ∷ []) buffer (later .bytes)
   comes-again =
-      let f = results-accurate i areas (both-calls ++ fetching ∷ []) buffer (later .bytes) small again-in-step in
-      let z = f .accepted .1 (again-turn, space) in
+      let f = results-accurate operator i areas (both-calls ++ fetching ∷ []) buffer (later .bytes) small again-in-step in
+      let z = f .accepted .1 (refl, again-turn, space) in
       record {
         accepted = z;
         in-step = again-in-step;
@@ -304,6 +317,9 @@ both-come-out i s areas l later others k m buffer small positive fits same none 
     record {
       waits = early-waits i s small positive fits areas l later same others none k m unfinished enough buffer space;
       first-out = first-comes i s small positive fits areas l later same others none k m unfinished enough buffer space;
+      fitter-out = comes-for i s small positive fits areas l later same others none k m unfinished enough buffer space fitter refl;
+      fitter-brings-nothing = fitter-leaves i s small positive fits areas l later same others none k m unfinished enough buffer space .loads;
+      waits-on = still-waits i s small positive fits areas l later same others none k m unfinished enough buffer space;
       brings = brought i s small positive fits areas l later same others none k m unfinished enough buffer space;
       source = brought-source i s small positive fits areas l later same others none k m unfinished enough buffer space;
       undisturbed = undisturbed-then i s small positive fits areas l later same others none k m unfinished enough buffer space;

@@ -12,6 +12,7 @@ use Rattle.engine.specs.Run.{nextJob, runDone}
 use Rattle.engine.proofs.Accepted.{PossibleJob, run-passes}
 use Rattle.engine.proofs.Taken.{possible-next}
 use Rattle.desk.specs.Desk.{jobAt}
+use Rattle.desk.specs.Roles.{operator}
 use Rattle.desk.proofs.Accepted.{left-passes}
 use Rattle.desk_laws.specs.Calls.{Lent, Call, run, begin, Hub, new, lentWords, next, after}
 use Rattle.desk_laws.specs.Ledger.{ledger}
@@ -82,7 +83,7 @@ held-steady s n = record {
 -- ---- a request of its share or more: it has none left and has come to n + s, or it is granted what it has left
 
 module _ (n s request : ℕ) (fits : s ≤ request) (a : Seat) (lent : Lent) (room : 512 ≤ length (lentWords (a .area) lent)) (x : Held n s a) where
-  accepted : 0 < a .left → runNumber a request lent ≡ 0
+  accepted : 0 < a .left → runNumber operator a request lent ≡ 0
   accepted some =
       let r = run-passes (a .job) (lentWords (a .area) lent) (record { room = room; possible = x .grown .possible }) in
       rw (r, left-passes (a .job) (a .left) request some)
@@ -94,9 +95,9 @@ module _ (n s request : ℕ) (fits : s ≤ request) (a : Seat) (lent : Lent) (ro
     possible = possible-next (a .job) (seatGrant a request) (lentWords (a .area) lent) (omega arith) (x .grown .possible);
   }
 
-  by-left : (m : ℕ) → a .left ≡ m → Grown (min (n + s) 120) (runSeat (runNumber a request lent) a (seatGrant a request) lent)
+  by-left : (m : ℕ) → a .left ≡ m → Grown (min (n + s) 120) (runSeat (runNumber operator a request lent) a (seatGrant a request) lent)
   by-left zero e =
-      grown-ran (min (n + s) 120) (runNumber a request lent) request a lent (record { from = omega (arith, x .reach, e); possible = x .grown .possible })
+      grown-ran (min (n + s) 120) (runNumber operator a request lent) request a lent (record { from = omega (arith, x .reach, e); possible = x .grown .possible })
   by-left (suc m) e =
       subst (λ (k : ℕ). Grown (min (n + s) 120) (runSeat k a (seatGrant a request) lent)) (sym (accepted (omega (arith, e)))) granted
 
@@ -104,19 +105,19 @@ module _ (n s request : ℕ) (fits : s ≤ request) (a : Seat) (lent : Lent) (ro
 
 module _ (i s : ℕ) (small : i < 8) where
   -- the calls of one round: those before the request, the request, and those after it
-  one-round : (n : ℕ) (h : Hub) (calls : List Call) → Eight (h .desk) → Along next (Undisturbed i s) h (begin ∷ calls) → Requests i s (next h begin) calls
-      → Grown n (seat i h) → Grown (min (n + s) 120) (seat i (after (next h begin) calls))
+  one-round : (n : ℕ) (h : Hub) (calls : List Call) → Eight (h .desk) → Along next (Undisturbed i s) h (begin operator ∷ calls) → Requests i s (next h (begin operator)) calls
+      → Grown n (seat i h) → Grown (min (n + s) 120) (seat i (after (next h (begin operator)) calls))
   unfolding Along afterAll
   one-round n h calls w u r x =
       let p = r .place in
-      let c = run i (r .request) (r .lent) in
-      let b = next h begin in
+      let c = run operator i (r .request) (r .lent) in
+      let b = next h (begin operator) in
       let m = after b (p .before) in
-      let w′ = eight-next h begin w in
+      let w′ = eight-next h (begin operator) w in
       let w″ = eight-after b (p .before) w′ in
       let v : Along next (Undisturbed i s) b (p .before ++ c ∷ p .rest) = subst (Along next (Undisturbed i s) b) (p .is) (u .1) in
       let v′ : Along next (Undisturbed i s) m (c ∷ p .rest) = along-rest next (Undisturbed i s) b (p .before) (c ∷ p .rest) v in
-      let begun : Held n s (seat i b) = subst (Held n s) (sym (seat-next h i small w begin)) (held-begun n s (seat i h) (u .0 .share refl) x) in
+      let begun : Held n s (seat i b) = subst (Held n s) (sym (seat-next h i small w (begin operator))) (held-begun n s (seat i h) (u .0 .share refl) x) in
       let held : Held n s (seat i m) =
       undisturbed-after i s small (Held n s) (held-steady s n) b (p .before) w′ (along-first next (Undisturbed i s) b (p .before) (c ∷ p .rest) v) begun in
       let asked : Grown (min (n + s) 120) (seat i (next m c)) =
@@ -129,10 +130,10 @@ module _ (i s : ℕ) (small : i < 8) where
   unfolding afterAll inRounds EachRequests
   all-rounds n h [] w u r x = record { from = omega (arith, zero-mul s, x .from); possible = x .possible }
   all-rounds n h (calls ∷ rounds) w u r x =
-      let b = next h begin in
+      let b = next h (begin operator) in
       let m = after b calls in
-      let y = one-round n h calls w (along-first next (Undisturbed i s) h (begin ∷ calls) (inRounds rounds) u) (r .0) x in
-      let z = all-rounds (min (n + s) 120) m rounds (eight-after b calls (eight-next h begin w)) (along-rest next (Undisturbed i s) h (begin ∷ calls) (inRounds rounds) u) (r .1) y in
+      let y = one-round n h calls w (along-first next (Undisturbed i s) h (begin operator ∷ calls) (inRounds rounds) u) (r .0) x in
+      let z = all-rounds (min (n + s) 120) m rounds (eight-after b calls (eight-next h (begin operator) w)) (along-rest next (Undisturbed i s) h (begin operator ∷ calls) (inRounds rounds) u) (r .1) y in
       let f : Grown (min (n + suc (length rounds) * s) 120) (seat i (after m (inRounds rounds))) =
       record { from = omega (arith, suc-mul (length rounds) s, z .from); possible = z .possible } in
       subst (λ (g : Hub). Grown (min (n + suc (length rounds) * s) 120) (seat i g)) (sym (after-append next b calls (inRounds rounds))) f

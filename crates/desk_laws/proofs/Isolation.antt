@@ -1,11 +1,15 @@
 -- What concerns a sector decides what its calls are answered and how it stands, whatever the others do. Assumes nothing.
 use mathlib.Core.Path.{_≡_, refl, sym, ap, ap₂, _∙_}
+use mathlib.Core.Bool.{Bool, true, false}
 use mathlib.Core.List.{List, [], _∷_, _++_, append-assoc, append-nil}
 use Prim.Native.Nat.{ℕ, _<_}
 use borrow.Author.Tests.{ne-eqb, lt-ltb, le-ltb}
 use Rattle.lists.specs.Histories.{afterAll, Place}
-use Rattle.desk.specs.Shares.{totalOf}
-use Rattle.desk_laws.specs.Calls.{Call, Hub, new, Answer, answer, next, after, Kind, own, other, round, setting, ownOr, kind}
+use lib.ListN.{getD}
+use Rattle.refusals.specs.Refusals.{first}
+use Rattle.desk.specs.Roles.{mayOperate, roleTest}
+use Rattle.desk.specs.Shares.{totalOf, sharesTest, setSharesRefusal}
+use Rattle.desk_laws.specs.Calls.{Call, Hub, new, Answer, answer, next, after, Kind, own, other, round, setting, ownOr, roundBy, settingBy, kind}
 use Rattle.desk_laws.specs.Isolation.{Seen, mine, begins, given, seenAt, view, told, answers, Isolation, WithoutOthers, OthersUnseen, OwnShareSeen}
 use Rattle.desk_laws.proofs.Seats.{Seat, seat, Eight, ownNext, ownAnswer, own-answer, refilled, sharing, step, seat-next, eight-next, eight-new}
 use Rattle.desk_laws.proofs.Alone.{aloneOf}
@@ -90,16 +94,25 @@ without-others i areas areas′ before others rest small same f =
     ∙ ap (λ (v : List Seen). v ++ view i rest) (view-append i before others ∙ ap (λ (v : List Seen). view i before ++ v) (none-seen i others f) ∙ append-nil (view i before))
     ∙ sym (view-append i before rest))
 
+-- shares above 120 in total, whoever sets them
+unset : (may : Bool) (n s : ℕ) → n ≡ 14 → settingBy (first (roleTest may) n) s ≡ other
+unset true n s e = ap (λ (k : ℕ). settingBy k s) e
+unset false n s e = refl
+
 pub others-unseen : OthersUnseen
+unfolding setSharesRefusal
 others-unseen i j d =
     let e : ownOr i j ≡ other = rw (ne-eqb j i (λ q. d (sym q))) in
     record {
-      hand-in = λ rec lent. e;
-      run = λ request lent. e;
-      fetch = λ buffer lent. e;
-      heard = e;
-      refused = λ shares eight above. rw (lt-ltb 120 (totalOf shares) above);
+      hand-in = λ role rec lent. e;
+      run = λ role request lent. e;
+      fetch = λ role buffer lent. e;
+      heard = λ role. e;
+      refused = λ role shares eight above. unset (mayOperate role) (sharesTest shares) (getD shares i 0) (rw (lt-ltb 120 (totalOf shares) above));
+      not-begun = λ role q. ap (λ (b : Bool). roundBy (roleTest b)) q;
+      not-set = λ role shares eight q. ap (λ (b : Bool). settingBy (first (roleTest b) (sharesTest shares)) (getD shares i 0)) q;
     }
 
 pub own-share-seen : OwnShareSeen
+unfolding setSharesRefusal
 own-share-seen i shares eight fits = rw (le-ltb 120 (totalOf shares) fits)

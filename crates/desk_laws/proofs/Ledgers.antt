@@ -13,10 +13,11 @@ use Rattle.matrix_record.specs.MatrixRecord.{heardByte}
 use Rattle.engine.specs.Load.{loadRefusal}
 use Rattle.engine.proofs.Accepted.{load-accepted, load-passes, fetch-accepted}
 use Rattle.desk.specs.Desk.{heardAt}
+use Rattle.desk.specs.Roles.{mayHear, roleTest}
 use Rattle.desk_laws.specs.Calls.{Lent, Call, handIn, run, fetch, heard, begin, setShares, Hub, new, lentWords, loadsIf, loads, Answer, answer, next, after, Kind, own, other, round, setting, kind, NoLoad, EachNoLoad}
 use Rattle.desk_laws.specs.Ledger.{nothing, matrix, Ledger, fresh, ifAccepted, notedBy, noted, ledgerAfter, ledger}
 use Rattle.desk_laws.specs.Loads.{WaitingIsHandedIn, NoneLost, HeardByLoad, HeardOfSource}
-use Rattle.desk_laws.proofs.Seats.{Seat, seat, Eight, loadedSeat, handSeat, runSeat, fetchSeat, handNumber, seatMustWait, runNumber, fetchNumber, seatGrant, ownNext, seatLent, ownLoads, handAnswer, runAnswer, fetchAnswer, ownAnswer, own-answer, own-loads, step, seat-next, eight-next, eight-after, eight-new}
+use Rattle.desk_laws.proofs.Seats.{Seat, seat, Eight, loadedSeat, handSeat, runSeat, fetchSeat, handNumber, seatMustWait, runNumber, fetchNumber, seatBrings, seatGrant, hand-passed, fetch-passed, brought-waits, ownNext, seatLent, ownLoads, handAnswer, runAnswer, fetchAnswer, heardAnswer, ownAnswer, own-answer, own-loads, step, seat-next, eight-next, eight-after, eight-new}
 use Rattle.desk_laws.proofs.Steady.{Any, Steady, steady-after}
 use Rattle.desk_laws.proofs.Unloaded.{none-waits}
 
@@ -54,36 +55,40 @@ stays g g′ a e f x = record {
 -- ---- the sector's own calls
 
 module _ (g : Ledger) (a : Seat) (x : Noted g a) where
-  hand-noted : (j : ℕ) (rec : List ℕ) (lent : Lent) (n : ℕ) (must : Bool) → handNumber a rec lent ≡ n
-      → Noted (ifAccepted (handAnswer n must a rec (lentWords (a .area) lent) .number) (loadsIf n (not must)) (handIn j rec lent) g) (handSeat n must a rec lent)
-  hand-noted j rec lent zero true e = record {
-    waiting = λ z. record { handed = refl; passes = λ l room. passes-again rec (lentWords (a .area) lent) l e room };
+  hand-noted : (role j : ℕ) (rec : List ℕ) (lent : Lent) (n : ℕ) (must : Bool) → handNumber role a rec lent ≡ n
+      → Noted (ifAccepted (handAnswer n must a rec (lentWords (a .area) lent) .number) (loadsIf n (not must)) (handIn role j rec lent) g) (handSeat n must a rec lent)
+  hand-noted role j rec lent zero true e = record {
+    waiting = λ z. record { handed = refl; passes = λ l room. passes-again rec (lentWords (a .area) lent) l (hand-passed role a rec lent e) room };
     heard = x .heard;
     lost = λ z. absurd (subst T z tt);
   }
-  hand-noted j rec lent zero false e = record { waiting = λ z. absurd (subst T (sym z) tt); heard = same-heard rec; lost = λ z. refl }
-  hand-noted j rec lent (suc n) must e = x
+  hand-noted role j rec lent zero false e = record { waiting = λ z. absurd (subst T (sym z) tt); heard = same-heard rec; lost = λ z. refl }
+  hand-noted role j rec lent (suc n) must e = x
 
-  run-noted : (j request : ℕ) (lent : Lent) (n : ℕ)
-      → Noted (ifAccepted (runAnswer n (a .job) (seatGrant a request) (lentWords (a .area) lent) .number) false (run j request lent) g) (runSeat n a (seatGrant a request) lent)
-  run-noted j request lent zero =
+  run-noted : (role j request : ℕ) (lent : Lent) (n : ℕ)
+      → Noted (ifAccepted (runAnswer n (a .job) (seatGrant a request) (lentWords (a .area) lent) .number) false (run role j request lent) g) (runSeat n a (seatGrant a request) lent)
+  run-noted role j request lent zero =
       record { waiting = λ z. let y = x .waiting z in record { handed = y .handed; passes = y .passes }; heard = x .heard; lost = x .lost }
-  run-noted j request lent (suc n) = x
+  run-noted role j request lent (suc n) = x
 
-  fetch-noted : (j : ℕ) (buffer : List ℕ) (lent : Lent) (n : ℕ) (waits : Bool) → a .waits ≡ waits
-      → Noted (ifAccepted (fetchAnswer n waits (a .waiting) (lentWords (a .area) lent) buffer .number) (loadsIf n waits) (fetch j buffer lent) g) (fetchSeat n waits a lent)
-  fetch-noted j buffer lent zero true e =
-      record { waiting = λ z. absurd (subst T (sym z) tt); heard = λ rec z. same-heard (a .waiting) rec (sym (x .waiting e .handed) ∙ z); lost = λ z. refl }
-  fetch-noted j buffer lent zero false e = stays g _ a refl refl x
-  fetch-noted j buffer lent (suc n) waits e = x
+  fetch-noted : (role j : ℕ) (buffer : List ℕ) (lent : Lent) (n : ℕ) (brought : Bool) → (brought ≡ true → a .waits ≡ true)
+      → Noted (ifAccepted (fetchAnswer n brought (a .waiting) (lentWords (a .area) lent) buffer .number) (loadsIf n brought) (fetch role j buffer lent) g) (fetchSeat n brought a lent)
+  fetch-noted role j buffer lent zero true e =
+      record { waiting = λ z. absurd (subst T (sym z) tt); heard = λ rec z. same-heard (a .waiting) rec (sym (x .waiting (e refl) .handed) ∙ z); lost = λ z. refl }
+  fetch-noted role j buffer lent zero false e = stays g _ a refl refl x
+  fetch-noted role j buffer lent (suc n) brought e = x
+
+  heard-noted : (role j n : ℕ) → Noted (ifAccepted (heardAnswer n (a .heard) .number) false (heard role j) g) a
+  heard-noted role j zero = stays g _ a refl refl x
+  heard-noted role j (suc n) = x
 
   own-noted : (c : Call) → Noted (ifAccepted (ownAnswer a c .number) (ownLoads a c) c g) (ownNext a c)
-  own-noted (handIn j rec lent) = hand-noted j rec lent (handNumber a rec lent) (seatMustWait a) refl
-  own-noted (run j request lent) = run-noted j request lent (runNumber a request lent)
-  own-noted (fetch j buffer lent) = fetch-noted j buffer lent (fetchNumber a buffer lent) (a .waits) refl
-  own-noted (heard j) = stays g _ a refl refl x
-  own-noted begin = stays g _ a refl refl x
-  own-noted (setShares shares eight) = stays g _ a refl refl x
+  own-noted (handIn role j rec lent) = hand-noted role j rec lent (handNumber role a rec lent) (seatMustWait a) refl
+  own-noted (run role j request lent) = run-noted role j request lent (runNumber role a request lent)
+  own-noted (fetch role j buffer lent) = fetch-noted role j buffer lent (fetchNumber role a buffer lent) (seatBrings role a) (brought-waits role a)
+  own-noted (heard role j) = heard-noted role j (roleTest (mayHear role))
+  own-noted (begin role) = stays g _ a refl refl x
+  own-noted (setShares role shares eight) = stays g _ a refl refl x
 
 -- ---- a call that loads the sector: which record, and what is noted of it
 
@@ -95,29 +100,30 @@ pub record Loading (g : Ledger) (a : Seat) (c : Call) : Type 0 where
 
 module _ (g : Ledger) (a : Seat) (x : Noted g a) where
   pub own-loading : (c : Call) → ownLoads a c ≡ true → Loading g a c
-  own-loading (handIn j rec lent) f = by-hand (handNumber a rec lent) (seatMustWait a) refl refl f
+  own-loading (handIn role j rec lent) f = by-hand (handNumber role a rec lent) (seatMustWait a) refl refl f
     where
-      by-hand : (n : ℕ) (must : Bool) → handNumber a rec lent ≡ n → seatMustWait a ≡ must → loadsIf n (not must) ≡ true → Loading g a (handIn j rec lent)
+      by-hand : (n : ℕ) (must : Bool) → handNumber role a rec lent ≡ n → seatMustWait a ≡ must → loadsIf n (not must) ≡ true → Loading g a (handIn role j rec lent)
       by-hand zero true e m z = absurd (subst T (sym z) tt)
-      by-hand zero false e m z = record { rec = rec; is = rw (e, m); source = rw (e, m); passes = e }
+      by-hand zero false e m z = record { rec = rec; is = rw (e, m); source = rw (e, m); passes = hand-passed role a rec lent e }
       by-hand (suc n) must e m z = absurd (subst T (sym z) tt)
-  own-loading (run j request lent) f = absurd (subst T (sym f) tt)
-  own-loading (fetch j buffer lent) f = by-fetch (fetchNumber a buffer lent) (a .waits) refl refl f
+  own-loading (run role j request lent) f = absurd (subst T (sym f) tt)
+  own-loading (fetch role j buffer lent) f = by-fetch (fetchNumber role a buffer lent) (seatBrings role a) refl refl f
     where
-      by-fetch : (n : ℕ) (waits : Bool) → fetchNumber a buffer lent ≡ n → a .waits ≡ waits → loadsIf n waits ≡ true → Loading g a (fetch j buffer lent)
+      by-fetch : (n : ℕ) (brought : Bool) → fetchNumber role a buffer lent ≡ n → seatBrings role a ≡ brought → loadsIf n brought ≡ true → Loading g a (fetch role j buffer lent)
       by-fetch zero true e m z =
           let l = lentWords (a .area) lent in
+          let y = x .waiting (brought-waits role a m) in
           record {
             rec = a .waiting;
             is = rw (e, m);
-            source = rw (e, m) (x .waiting m .handed);
-            passes = x .waiting m .passes l (fetch-accepted (a .job) l buffer e .room);
+            source = rw (e, m) (y .handed);
+            passes = y .passes l (fetch-accepted (a .job) l buffer (fetch-passed role a buffer lent e .1) .room);
           }
       by-fetch zero false e m z = absurd (subst T (sym z) tt)
-      by-fetch (suc n) waits e m z = absurd (subst T (sym z) tt)
-  own-loading (heard j) f = absurd (subst T (sym f) tt)
-  own-loading begin f = absurd (subst T (sym f) tt)
-  own-loading (setShares shares eight) f = absurd (subst T (sym f) tt)
+      by-fetch (suc n) brought e m z = absurd (subst T (sym z) tt)
+  own-loading (heard role j) f = absurd (subst T (sym f) tt)
+  own-loading (begin role) f = absurd (subst T (sym f) tt)
+  own-loading (setShares role shares eight) f = absurd (subst T (sym f) tt)
 
 -- ---- over a list of calls
 

@@ -5,6 +5,7 @@ pub mod Refusals
 pub mod Rounds
 pub mod Steady
 pub mod Unloaded
+pub mod Views
 pub mod Ledgers
 pub mod Alone
 pub mod Isolation

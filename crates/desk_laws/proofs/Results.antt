@@ -24,7 +24,7 @@ use Rattle.desk_laws.specs.Calls.{Lent, its, Call, fetch, Hub, new, lent
 use Rattle.desk_laws.specs.Ledger.{matrix, Ledger, fresh, noted, ledgerAfter, ledger, EachIts}
 use Rattle.desk_laws.specs.Sectors.{LoadedBy, SectorKept}
 use Rattle.desk_laws.specs.Results.{InStep, Fetched, ResultsAccurate, FetchRepeats}
-use Rattle.desk_laws.proofs.Seats.{Seat, seat, Eight, runSeat, seatGrant, no-grant, fetchNumber, fetchAnswer, ownAnswer, fetch-number-is, seatLent, lent-own, left-same, own-kind, own-answer, own-loads, eight-after, eight-new}
+use Rattle.desk_laws.proofs.Seats.{Seat, seat, Eight, runSeat, seatGrant, no-grant, fetchNumber, seatBrings, fetch-passed, fetchAnswer, ownAnswer, fetch-number-is, seatLent, lent-own, left-same, own-kind, own-answer, own-loads, eight-after, eight-new}
 use Rattle.desk_laws.proofs.Steady.{Any, Steady, steady-after}
 use Rattle.desk_laws.proofs.LastLoad.{Split, Last, quiet, split, last}
 use Rattle.desk_laws.proofs.Ledgers.{same-record, own-loading, own-entry, noted-all, ledger-append}
@@ -32,7 +32,7 @@ use Rattle.desk_laws.proofs.Sectors.{sector-demand-3}
 
 -- ---- the law on results
 
-module _ (i : ℕ) (small : i < 8) (areas : ℕ → List ℤ) (calls : List Call) (buffer rec : List ℕ) (u : InStep rec (ledger i areas calls)) where
+module _ (i : ℕ) (small : i < 8) (areas : ℕ → List ℤ) (calls : List Call) (role : ℕ) (buffer rec : List ℕ) (u : InStep rec (ledger i areas calls)) where
   module _ (p : Split i (new areas) fresh calls) where
     abbrev load-hub : Hub
     load-hub = after (new areas) (p .before)
@@ -81,21 +81,21 @@ module _ (i : ℕ) (small : i < 8) (areas : ℕ → List ℤ) (calls : List Call
         let v = t .its (subst (λ (m : Ledger). EachIts (m .since)) ledger-split (u .lent)) in
         sector-demand-3 i areas (p .before) (p .load) (p .rest) loaded small loaded-by (each-of next (NoLoad i) g (p .rest) (t .none)) (each-of next (OwnLent i) g (p .rest) (v .0))
 
-    fetched-since : Fetched i (after (next load-hub (p .load)) (p .rest)) buffer rec
+    fetched-since : Fetched role i (after (next load-hub (p .load)) (p .rest)) buffer rec
     fetched-since =
         let end : Point (p .rest) = record { before = p .rest; rest = []; is = sym (append-nil (p .rest)) } in
-        let iff = kept-since .fetch-accepted buffer end in
+        let iff = kept-since .fetch-accepted role buffer end in
         record {
-          result = λ z. record { bytes = kept-since .written buffer end z; factored = kept-since .factored end (iff .0 z .0) };
+          result = λ z. record { bytes = kept-since .written role buffer end z; factored = kept-since .factored end (iff .0 z .1) };
           accepted = iff;
         }
 
-  by-last : Last i (new areas) fresh calls → Fetched i (after (new areas) calls) buffer rec
+  by-last : Last i (new areas) fresh calls → Fetched role i (after (new areas) calls) buffer rec
   by-last (quiet t) = absurd (let e = sym (t .source) ∙ u .source in let z : _≡_ {A = ℕ} 0 1 = cc in omega arith)
-  by-last (split p) = subst (λ (h : Hub). Fetched i h buffer rec) (sym (hub-split p)) (fetched-since p)
+  by-last (split p) = subst (λ (h : Hub). Fetched role i h buffer rec) (sym (hub-split p)) (fetched-since p)
 
 pub results-accurate : ResultsAccurate
-results-accurate i areas calls buffer rec small u = by-last i small areas calls buffer rec u (last i (new areas) fresh calls)
+results-accurate role i areas calls buffer rec small u = by-last i small areas calls role buffer rec u (last i (new areas) fresh calls)
 
 -- ---- a Fetch again
 
@@ -124,38 +124,38 @@ module _ (job : Job) (area : List ℤ) (end : job .turn ≡ 120) where
   }
 
 -- what an accepted Fetch writes first
-first-bytes : (n : ℕ) (waits : Bool) (rec : List ℕ) (l : List ℤ) (buffer : List ℕ) → n ≡ 0 → take 2049 (fetchAnswer n waits rec l buffer .buffer) ≡ tabulate 2049 (resultByte (R l) (Q l))
+first-bytes : (n : ℕ) (brought : Bool) (rec : List ℕ) (l : List ℤ) (buffer : List ℕ) → n ≡ 0 → take 2049 (fetchAnswer n brought rec l buffer .buffer) ≡ tabulate 2049 (resultByte (R l) (Q l))
 unfolding fetchBy filled
-first-bytes zero waits rec l buffer e = take-at (tabulate 2049 (resultByte (R l) (Q l))) (drop 2049 buffer) 2049 (length-tabulate 2049 (resultByte (R l) (Q l)))
-first-bytes (suc n) waits rec l buffer e = absurd (omega (arith, e))
+first-bytes zero brought rec l buffer e = take-at (tabulate 2049 (resultByte (R l) (Q l))) (drop 2049 buffer) 2049 (length-tabulate 2049 (resultByte (R l) (Q l)))
+first-bytes (suc n) brought rec l buffer e = absurd (omega (arith, e))
 
-module _ (i : ℕ) (small : i < 8) (h : Hub) (w : Eight (h .desk)) (buffer : List ℕ) where
-  fetch-own : answer h (fetch i buffer its) ≡ ownAnswer (seat i h) (fetch i buffer its)
-  fetch-own = own-answer h i small w (fetch i buffer its) (own-kind i)
+module _ (role i : ℕ) (small : i < 8) (h : Hub) (w : Eight (h .desk)) (buffer : List ℕ) where
+  fetch-own : answer h (fetch role i buffer its) ≡ ownAnswer (seat i h) (fetch role i buffer its)
+  fetch-own = own-answer h i small w (fetch role i buffer its) (own-kind i)
 
-  pub number-own : answer h (fetch i buffer its) .number ≡ fetchNumber (seat i h) buffer its
+  pub number-own : answer h (fetch role i buffer its) .number ≡ fetchNumber role (seat i h) buffer its
   number-own =
       let a = seat i h in
-      ap (λ (r : Answer). r .number) fetch-own ∙ fetch-number-is (fetchNumber a buffer its) (a .waits) (a .waiting) (a .area) buffer
+      ap (λ (r : Answer). r .number) fetch-own ∙ fetch-number-is (fetchNumber role a buffer its) (seatBrings role a) (a .waiting) (a .area) buffer
 
-  bytes-own : Accepted h (fetch i buffer its) → take 2049 (answer h (fetch i buffer its) .buffer) ≡ tabulate 2049 (resultByte (R (h .area i)) (Q (h .area i)))
+  bytes-own : Accepted h (fetch role i buffer its) → take 2049 (answer h (fetch role i buffer its) .buffer) ≡ tabulate 2049 (resultByte (R (h .area i)) (Q (h .area i)))
   bytes-own z =
       let a = seat i h in
-      ap (λ (r : Answer). take 2049 (r .buffer)) fetch-own ∙ first-bytes (fetchNumber a buffer its) (a .waits) (a .waiting) (a .area) buffer (sym number-own ∙ z)
+      ap (λ (r : Answer). take 2049 (r .buffer)) fetch-own ∙ first-bytes (fetchNumber role a buffer its) (seatBrings role a) (a .waiting) (a .area) buffer (sym number-own ∙ z)
 
 pub fetch-repeats : FetchRepeats
 unfolding EachNoLoad
-fetch-repeats i areas before between buffer buffer′ small z f room =
+fetch-repeats role role′ i areas before between buffer buffer′ small z f may room =
     let h = after (new areas) before in
-    let c = fetch i buffer its in
+    let c = fetch role i buffer its in
     let a = seat i h in
     let w = eight-after (new areas) before (eight-new areas) in
     let g = after h (c ∷ between) in
     let w′ = eight-after h (c ∷ between) w in
-    let t = fetch-accepted (a .job) (a .area) buffer (sym (number-own i small h w buffer) ∙ z) in
+    let t = fetch-accepted (a .job) (a .area) buffer (fetch-passed role a buffer its (sym (number-own role i small h w buffer) ∙ z) .1) in
     let x : Rests (a .job) (a .area) (seat i g) =
     steady-after (Rests (a .job) (a .area)) (rests-steady (a .job) (a .area) (t .last)) i small h (c ∷ between) w (along-of next (NoLoad i) h (c ∷ between) f) (record { same-job = refl; same-area = refl }) in
     let p = fetch-passes (a .job) (a .area) buffer′ (record { room = t .room; last = t .last; made = t .made; space = room; finished = t .finished }) in
-    let y : fetchNumber (seat i g) buffer′ its ≡ 0 = rw (x .same-job, x .same-area) p in
-    let d = number-own i small g w′ buffer′ ∙ y in
-    (d, bytes-own i small g w′ buffer′ d ∙ ap (λ (l : List ℤ). tabulate 2049 (resultByte (R l) (Q l))) (x .same-area) ∙ sym (bytes-own i small h w buffer z))
+    let y : fetchNumber role′ (seat i g) buffer′ its ≡ 0 = rw (x .same-job, x .same-area, may) p in
+    let d = number-own role′ i small g w′ buffer′ ∙ y in
+    (d, bytes-own role′ i small g w′ buffer′ d ∙ ap (λ (l : List ℤ). tabulate 2049 (resultByte (R l) (Q l))) (x .same-area) ∙ sym (bytes-own role i small h w buffer z))

@@ -12,18 +12,20 @@ use lib.ListN.{getD, getD-replicate}
 use Rattle.integers.specs.Sum.{total}
 use Rattle.integers.proofs.Sum.{total-same, total-mono}
 use Rattle.lists.specs.Histories.{afterAll}
-use Rattle.refusals.proofs.Refusals.{if-passed}
+use Rattle.refusals.proofs.Refusals.{first-none, if-passed}
 use Rattle.engine.specs.Run.{runDone}
 use Rattle.desk.specs.declared.Desk.{Desk}
-use Rattle.desk.specs.Desk.{sectorTest, shareAt, leftAt, waitsAt, beginOf}
+use Rattle.desk.specs.Desk.{shareAt, leftAt}
+use Rattle.desk.specs.Roles.{mayOperate, mayHear, roleTest, admissionTest}
 use Rattle.desk.specs.HandIn.{handInRefusal, mustWait, handInBy, handInOf}
 use Rattle.desk.specs.Run.{deskRunRefusal, deskRunDone, deskRunBy, deskRunOf}
-use Rattle.desk.specs.Fetch.{deskFetchRefusal, deskFetchBy, deskFetchOf}
+use Rattle.desk.specs.Fetch.{deskFetchRefusal, brings, deskFetchBy, deskFetchOf}
 use Rattle.desk.specs.Heard.{deskHeardOf}
-use Rattle.desk.specs.Shares.{totalOf, sharesTest, setSharesBy, setSharesOf}
-use Rattle.desk_laws.specs.Calls.{Lent, Call, handIn, run, fetch, heard, begin, setShares, Hub, new, lentWords, Answer, answer, next, after, Kind, own, other, round, setting, ownOr, settingBy, kind}
+use Rattle.desk.specs.Rounds.{beginBy, beginOf}
+use Rattle.desk.specs.Shares.{totalOf, setSharesRefusal, setSharesBy, setSharesOf}
+use Rattle.desk_laws.specs.Calls.{Lent, Call, handIn, run, fetch, heard, begin, setShares, Hub, new, lentWords, Answer, answer, next, after, Kind, own, other, round, setting, ownOr, roundBy, settingBy, kind}
 use Rattle.desk_laws.specs.Rounds.{tallied, grantedIn, startingAt, startingIn, grantedSoFar, startingShare, RoundTotal}
-use Rattle.desk_laws.proofs.Seats.{Seat, seat, Eight, handSeat, runSeat, fetchSeat, handNumber, seatMustWait, runNumber, fetchNumber, seatGrant, ownNext, handAnswer, runAnswer, fetchAnswer, ownAnswer, own-answer, handHub, runHub, fetchHub, heard-desk, step, seat-next, eight-next, eight-new}
+use Rattle.desk_laws.proofs.Seats.{Seat, seat, Eight, handSeat, runSeat, fetchSeat, handNumber, seatMustWait, runNumber, fetchNumber, seatBrings, seatGrant, ownNext, handAnswer, runAnswer, fetchAnswer, heardAnswer, ownAnswer, own-answer, handHub, runHub, fetchHub, heard-desk, step, seat-next, eight-next, eight-new}
 
 -- ---- a sector by itself: each call that grants takes as much from its count
 
@@ -37,18 +39,22 @@ unfolding runDone
 run-paid a request lent l zero = omega arith
 run-paid a request lent l (suc n) = omega arith
 
-fetch-paid : (a : Seat) (buffer : List ℕ) (lent : Lent) (l : List ℤ) (n : ℕ) (waits : Bool) → fetchAnswer n waits (a .waiting) l buffer .count + fetchSeat n waits a lent .left ≡ a .left
+fetch-paid : (a : Seat) (buffer : List ℕ) (lent : Lent) (l : List ℤ) (n : ℕ) (brought : Bool) → fetchAnswer n brought (a .waiting) l buffer .count + fetchSeat n brought a lent .left ≡ a .left
 fetch-paid a buffer lent l zero true = omega arith
 fetch-paid a buffer lent l zero false = omega arith
-fetch-paid a buffer lent l (suc n) waits = omega arith
+fetch-paid a buffer lent l (suc n) brought = omega arith
+
+heard-paid : (n : ℕ) (a : Seat) → heardAnswer n (a .heard) .count + a .left ≡ a .left
+heard-paid zero a = omega arith
+heard-paid (suc n) a = omega arith
 
 own-paid : (a : Seat) (c : Call) → ownAnswer a c .count + ownNext a c .left ≡ a .left
-own-paid a (handIn j rec lent) = hand-paid a rec lent (lentWords (a .area) lent) (handNumber a rec lent) (seatMustWait a)
-own-paid a (run j request lent) = run-paid a request lent (lentWords (a .area) lent) (runNumber a request lent)
-own-paid a (fetch j buffer lent) = fetch-paid a buffer lent (lentWords (a .area) lent) (fetchNumber a buffer lent) (a .waits)
-own-paid a (heard j) = omega arith
-own-paid a begin = omega arith
-own-paid a (setShares shares eight) = omega arith
+own-paid a (handIn role j rec lent) = hand-paid a rec lent (lentWords (a .area) lent) (handNumber role a rec lent) (seatMustWait a)
+own-paid a (run role j request lent) = run-paid a request lent (lentWords (a .area) lent) (runNumber role a request lent)
+own-paid a (fetch role j buffer lent) = fetch-paid a buffer lent (lentWords (a .area) lent) (fetchNumber role a buffer lent) (seatBrings role a)
+own-paid a (heard role j) = heard-paid (roleTest (mayHear role)) a
+own-paid a (begin role) = omega arith
+own-paid a (setShares role shares eight) = omega arith
 
 module _ (i : ℕ) (small : i < 8) where
   by-kind : (h : Hub) (c : Call) (granted start : ℕ) (k : Kind) → kind i c ≡ k → Eight (h .desk) → granted + seat i h .left ≡ start
@@ -106,35 +112,44 @@ unfolding deskRunBy deskRunDone
 run-shares h j request lent zero = refl
 run-shares h j request lent (suc n) = refl
 
-fetch-shares : (h : Hub) (j : ℕ) (buffer : List ℕ) (lent : Lent) (n : ℕ) (waits : Bool) → fetchHub h j buffer lent n waits .desk .shares ≡ h .desk .shares
+fetch-shares : (h : Hub) (j : ℕ) (buffer : List ℕ) (lent : Lent) (n : ℕ) (brought : Bool) → fetchHub h j buffer lent n brought .desk .shares ≡ h .desk .shares
 unfolding deskFetchBy
 fetch-shares h j buffer lent zero true = refl
 fetch-shares h j buffer lent zero false = refl
-fetch-shares h j buffer lent (suc n) waits = refl
+fetch-shares h j buffer lent (suc n) brought = refl
 
 set-shares-total : (d : Desk) (shares : List ℕ) (n : ℕ) → (n ≡ 0 → totalOf shares ≤ 120) → totalOf (d .shares) ≤ 120 → totalOf (setSharesBy n d shares .desk .shares) ≤ 120
 unfolding setSharesBy
 set-shares-total d shares zero f x = f refl
 set-shares-total d shares (suc n) f x = x
 
+set-passed : (role : ℕ) (shares : List ℕ) → setSharesRefusal role shares ≡ 0 → totalOf shares ≤ 120
+unfolding setSharesRefusal
+set-passed role shares e = ltb-false 120 (totalOf shares) (if-passed (ltb 120 (totalOf shares)) 13 (first-none (roleTest (mayOperate role)) _ e .1))
+
+within-begin : (h : Hub) (start : ℕ → ℕ) → Within120 (h .desk) start → (n : ℕ) → Within120 (beginBy n (h .desk) .desk) (λ i. startingAt (roundBy n) (start i) (shareAt (h .desk) i))
+unfolding beginBy
+within-begin h start x zero = record { shares = x .shares; starting = x .shares }
+within-begin h start x (suc n) = record { shares = x .shares; starting = x .starting }
+
 within-next : (h : Hub) (c : Call) (start : ℕ → ℕ) → Within120 (h .desk) start → Within120 (next h c .desk) (λ i. startingAt (kind i c) (start i) (shareAt (h .desk) i))
 unfolding next handInOf deskRunOf deskFetchOf deskHeardOf beginOf setSharesOf
-within-next h (handIn j rec lent) start x =
-    let e = hand-shares h j rec lent (handInRefusal j rec (lentWords (h .area j) lent)) (mustWait (h .desk) j) in
+within-next h (handIn role j rec lent) start x =
+    let e = hand-shares h j rec lent (handInRefusal role j rec (lentWords (h .area j) lent)) (mustWait (h .desk) j) in
     within-same (h .desk) _ start x (subst (λ (l : List ℕ). totalOf l ≤ 120) (sym e) (x .shares)) _ (λ i. same-own i j (start i) (shareAt (h .desk) i))
-within-next h (run j request lent) start x =
-    let e = run-shares h j request lent (deskRunRefusal (h .desk) j request (lentWords (h .area j) lent)) in
+within-next h (run role j request lent) start x =
+    let e = run-shares h j request lent (deskRunRefusal role (h .desk) j request (lentWords (h .area j) lent)) in
     within-same (h .desk) _ start x (subst (λ (l : List ℕ). totalOf l ≤ 120) (sym e) (x .shares)) _ (λ i. same-own i j (start i) (shareAt (h .desk) i))
-within-next h (fetch j buffer lent) start x =
-    let e = fetch-shares h j buffer lent (deskFetchRefusal (h .desk) j (lentWords (h .area j) lent) buffer) (waitsAt (h .desk) j) in
+within-next h (fetch role j buffer lent) start x =
+    let e = fetch-shares h j buffer lent (deskFetchRefusal role (h .desk) j (lentWords (h .area j) lent) buffer) (brings role (h .desk) j) in
     within-same (h .desk) _ start x (subst (λ (l : List ℕ). totalOf l ≤ 120) (sym e) (x .shares)) _ (λ i. same-own i j (start i) (shareAt (h .desk) i))
-within-next h (heard j) start x =
-    let e = heard-desk (sectorTest j) (h .desk) j in
+within-next h (heard role j) start x =
+    let e = heard-desk (admissionTest (mayHear role) j) (h .desk) j in
     within-same (h .desk) _ start x (subst (λ (d : Desk). totalOf (d .shares) ≤ 120) (sym e) (x .shares)) _ (λ i. same-own i j (start i) (shareAt (h .desk) i))
-within-next h begin start x = record { shares = x .shares; starting = x .shares }
-within-next h (setShares shares eight) start x =
-    let passed : sharesTest shares ≡ 0 → totalOf shares ≤ 120 = λ e. ltb-false 120 (totalOf shares) (if-passed (ltb 120 (totalOf shares)) 13 e) in
-    within-same (h .desk) _ start x (set-shares-total (h .desk) shares (sharesTest shares) passed (x .shares)) _ (λ i. same-set (sharesTest shares) (getD shares i 0) (start i) (shareAt (h .desk) i))
+within-next h (begin role) start x = within-begin h start x (roleTest (mayOperate role))
+within-next h (setShares role shares eight) start x =
+    let n = setSharesRefusal role shares in
+    within-same (h .desk) _ start x (set-shares-total (h .desk) shares n (set-passed role shares) (x .shares)) _ (λ i. same-set n (getD shares i 0) (start i) (shareAt (h .desk) i))
 
 within-after : (h : Hub) (calls : List Call) (start : ℕ → ℕ) → Within120 (h .desk) start → Within120 (after h calls .desk) (λ i. startingIn i h (start i) calls)
 unfolding afterAll startingIn

@@ -10,24 +10,25 @@ use lib.IntN.{ℤ}
 use lib.ListN.{length, drop}
 use Rattle.lists.specs.Histories.{afterAll, Place, Point}
 use Rattle.lists.proofs.Histories.{after-append, Along, along-of, along-append, each-of, each-before}
-use Rattle.refusals.proofs.Refusals.{first-none}
+use Rattle.refusals.specs.Refusals.{first}
 use Rattle.matrix_record.specs.MatrixRecord.{realEntry}
 use Rattle.result_record.specs.ResultRecord.{resultRecord}
 use Rattle.workspace.specs.Workspace.{R, Q}
 use Rattle.engine.specs.Load.{loadBy, loadOf}
-use Rattle.engine.specs.Run.{runRefusal, nextJob, runDone}
+use Rattle.engine.specs.Run.{nextJob, runDone}
 use Rattle.engine.proofs.Taken.{all-taken}
-use Rattle.engine.specs.Fetch.{fetchBy, fetchOf}
+use Rattle.engine.specs.Fetch.{fetchRefusal, fetchBy, fetchOf}
 use Rattle.accuracy.specs.Factorization.{Factorization}
 use Rattle.accuracy.specs.Demand3.{Load, State, RunCall, FetchCall, ran, refusal, start, EachInStep, Kept}
 use Rattle.accuracy.specs.Demand3 as engine
 use Rattle.accuracy.proofs.Demand3.{demand3}
 use Rattle.accuracy.proofs.Possible.{Stepping}
 use Rattle.desk.specs.Desk.{jobAt}
+use Rattle.desk.specs.Roles.{mayFetch, roleTest}
 use Rattle.desk_laws.specs.Calls.{Lent, its, another, Call, handIn, run, fetch, heard, begin, setShares, Hub, new, lentWords, loadsIf, loads, Answer, bare, answer, next, after, Accepted, Kind, own, other, round, setting, kind, NoLoad, EachNoLoad, Its, LentIts, OwnLent, EachLentIts}
 use Rattle.desk_laws.specs.Ledger.{matrix, Ledger, fresh, ifAccepted, ledgerAfter, ledger}
-use Rattle.desk_laws.specs.Sectors.{engineRun, engineFetch, engineCall, engineCalls, stateAfter, ranAnswer, fetchedAnswer, LoadedBy, SectorDemand3}
-use Rattle.desk_laws.proofs.Seats.{Seat, seat, Eight, loadedSeat, handSeat, runSeat, fetchSeat, handNumber, seatMustWait, runNumber, fetchNumber, seatGrant, ownNext, ownLoads, runAnswer, fetchAnswer, ownAnswer, run-number-is, fetch-number-is, seatLent, lent-own, own-kind, own-next, own-loads, own-answer, step, seat-next, eight-next, eight-after, eight-new}
+use Rattle.desk_laws.specs.Sectors.{engineRun, engineFetch, ifAllowed, engineCall, engineCalls, stateAfter, ranAnswer, fetchedAnswer, LoadedBy, SectorDemand3}
+use Rattle.desk_laws.proofs.Seats.{Seat, seat, Eight, loadedSeat, handSeat, runSeat, fetchSeat, handNumber, seatMustWait, runNumber, fetchNumber, seatBrings, seatGrant, run-passed, fetch-passed, ownNext, ownLoads, runAnswer, fetchAnswer, ownAnswer, run-number-is, fetch-number-is, seatLent, lent-own, own-kind, own-next, own-loads, own-answer, step, seat-next, eight-next, eight-after, eight-new}
 use Rattle.desk_laws.proofs.Ledgers.{same-record, own-loading, own-entry, noted-all, ledger-append}
 use Rattle.desk_laws.proofs.Refusals.{refusals-change-nothing}
 
@@ -55,66 +56,75 @@ module _ (a : Seat) (s : State) (b : Beside a s) where
   hand-step rec lent (suc n) must f = idle
 
   -- an accepted Run, with the turns granted for its allowance
-  ran-is : (request : ℕ) → runNumber a request its ≡ 0 → ran s (engineRun (a .job) (seatGrant a request) its) ≡ runDone (a .job) (seatGrant a request) (a .area)
-  ran-is request e =
-      rw (← (b .area)) (all-taken (a .job) (seatGrant a request) (a .area) (first-none (runRefusal (a .job) (a .area)) _ e .0) (omega arith))
+  ran-is : (role request : ℕ) → runNumber role a request its ≡ 0 → ran s (engineRun (a .job) (seatGrant a request) its) ≡ runDone (a .job) (seatGrant a request) (a .area)
+  ran-is role request e =
+      rw (← (b .area)) (all-taken (a .job) (seatGrant a request) (a .area) (run-passed role a request its e) (omega arith))
 
-  ran-told : (request : ℕ) → runNumber a request its ≡ 0 → runAnswer 0 (a .job) (seatGrant a request) (a .area) ≡ ranAnswer (ran s (engineRun (a .job) (seatGrant a request) its))
+  ran-told : (role request : ℕ) → runNumber role a request its ≡ 0 → runAnswer 0 (a .job) (seatGrant a request) (a .area) ≡ ranAnswer (ran s (engineRun (a .job) (seatGrant a request) its))
   unfolding runDone
-  ran-told request e = rw (ran-is request e)
+  ran-told role request e = rw (ran-is role request e)
 
-  -- a Fetch, which may bring one in
-  fetched-by : (n : ℕ) (waits : Bool) (buffer : List ℕ) (l : List ℤ)
-      → (let r = fetchAnswer n waits (a .waiting) l buffer in r ≡ bare n (fetchBy n l buffer .buffer) (r .words))
+  -- a Fetch, which may bring one in; a role that may fetch adds nothing
+  allowed-number : (role : ℕ) (buffer : List ℕ) (lent : Lent) → mayFetch role ≡ true → fetchNumber role a buffer lent ≡ fetchRefusal (a .job) (lentWords (a .area) lent) buffer
+  allowed-number role buffer lent m = ap (λ (t : Bool). first (roleTest t) (fetchRefusal (a .job) (lentWords (a .area) lent) buffer)) m
+
+  fetched-by : (n : ℕ) (brought : Bool) (buffer : List ℕ) (l : List ℤ)
+      → (let r = fetchAnswer n brought (a .waiting) l buffer in r ≡ bare n (fetchBy n l buffer .buffer) (r .words))
   unfolding fetchBy
-  fetched-by zero waits buffer l = refl
-  fetched-by (suc n) waits buffer l = refl
+  fetched-by zero brought buffer l = refl
+  fetched-by (suc n) brought buffer l = refl
 
-  fetched-told : (buffer : List ℕ) → (let r = ownAnswer a (fetch 0 buffer its) in r ≡ fetchedAnswer s (engineFetch (a .job) buffer its) (r .words))
+  fetched-told : (role : ℕ) (buffer : List ℕ) → mayFetch role ≡ true → (let r = ownAnswer a (fetch role 0 buffer its) in r ≡ fetchedAnswer s (engineFetch (a .job) buffer its) (r .words))
   unfolding fetchOf
-  fetched-told buffer = fetched-by (fetchNumber a buffer its) (a .waits) buffer (a .area) ∙ rw (b .area)
+  fetched-told role buffer m =
+      let w = fetchAnswer (fetchNumber role a buffer its) (seatBrings role a) (a .waiting) (a .area) buffer .words in
+      fetched-by (fetchNumber role a buffer its) (seatBrings role a) buffer (a .area)
+      ∙ ap (λ (n : ℕ). bare n (fetchBy n (a .area) buffer .buffer) w) (allowed-number role buffer its m) ∙ rw (b .area)
 
-  fetched-left : (n : ℕ) (waits : Bool) (buffer : List ℕ) → loadsIf n waits ≡ false → fetchAnswer n waits (a .waiting) (a .area) buffer .words ≡ s .workspace
+  fetched-left : (n : ℕ) (brought : Bool) (buffer : List ℕ) → loadsIf n brought ≡ false → fetchAnswer n brought (a .waiting) (a .area) buffer .words ≡ s .workspace
   fetched-left zero true buffer f = absurd (subst T f tt)
   fetched-left zero false buffer f = b .area
-  fetched-left (suc n) waits buffer f = b .area
+  fetched-left (suc n) brought buffer f = b .area
 
-  run-done : (request : ℕ) → runNumber a request its ≡ 0
+  run-done : (role request : ℕ) → runNumber role a request its ≡ 0
       → Beside (runSeat 0 a (seatGrant a request) its) (engine.moved s (engineRun (a .job) (seatGrant a request) its) (ran s (engineRun (a .job) (seatGrant a request) its)))
   unfolding runDone nextJob
-  run-done request e =
+  run-done role request e =
       let k = seatGrant a request in
-      rw (ran-is request e) (record { area = refl; job = refl; granted = ap (λ (n : ℕ). n + k) (b .granted) })
+      rw (ran-is role request e) (record { area = refl; job = refl; granted = ap (λ (n : ℕ). n + k) (b .granted) })
 
-  run-step : (j request : ℕ) (lent : Lent) (n : ℕ) → runNumber a request lent ≡ n
+  run-step : (role j request : ℕ) (lent : Lent) (n : ℕ) → runNumber role a request lent ≡ n
       → (let r = runAnswer n (a .job) (seatGrant a request) (lentWords (a .area) lent) in
-      (r .number ≡ 0 → Its lent) → Step (runSeat n a (seatGrant a request) lent) s (engineCall own (r .number) (a .job) (run j request lent) (r .count)))
+      (r .number ≡ 0 → Its lent) → Step (runSeat n a (seatGrant a request) lent) s (engineCall own (r .number) (a .job) (run role j request lent) (r .count)))
   unfolding Along afterAll runDone
-  run-step j request its zero e u = record { in-step = (λ z. (refl, b .job), tt); beside = run-done request e }
-  run-step j request (another m) zero e u = absurd (u refl)
-  run-step j request lent (suc n) e u = idle
+  run-step role j request its zero e u = record { in-step = (λ z. (refl, b .job), tt); beside = run-done role request e }
+  run-step role j request (another m) zero e u = absurd (u refl)
+  run-step role j request lent (suc n) e u = idle
 
-  fetch-step : (j n : ℕ) (buffer : List ℕ) (lent : Lent) → (fetchNumber a buffer lent ≡ 0 → Its lent) → Step a s (engineCall own n (a .job) (fetch j buffer lent) 0)
+  fetch-step : (buffer : List ℕ) (lent : Lent) (may : Bool) → (first (roleTest may) (fetchRefusal (a .job) (lentWords (a .area) lent) buffer) ≡ 0 → Its lent)
+      → Step a s (ifAllowed may (engineFetch (a .job) buffer lent))
   unfolding Along afterAll
-  fetch-step j n buffer its u = record { in-step = (λ z. (refl, b .job), tt); beside = b }
-  fetch-step j n buffer (another m) u = record { in-step = (λ z. absurd (u z), tt); beside = b }
+  fetch-step buffer its true u = record { in-step = (λ z. (refl, b .job), tt); beside = b }
+  fetch-step buffer (another m) true u = record { in-step = (λ z. absurd (u z), tt); beside = b }
+  fetch-step buffer lent false u = idle
 
-  not-brought : (lent : Lent) (n : ℕ) (waits : Bool) → loadsIf n waits ≡ false → fetchSeat n waits a lent ≡ a
+  not-brought : (lent : Lent) (n : ℕ) (brought : Bool) → loadsIf n brought ≡ false → fetchSeat n brought a lent ≡ a
   not-brought lent zero true f = absurd (subst T f tt)
   not-brought lent zero false f = refl
-  not-brought lent (suc n) waits f = refl
+  not-brought lent (suc n) brought f = refl
 
   own-step : (c : Call) → ownLoads a c ≡ false → (ownAnswer a c .number ≡ 0 → LentIts c)
       → Step (ownNext a c) s (engineCall own (ownAnswer a c .number) (a .job) c (ownAnswer a c .count))
-  own-step (handIn j rec lent) f u = hand-step rec lent (handNumber a rec lent) (seatMustWait a) f
-  own-step (run j request lent) f u = run-step j request lent (runNumber a request lent) refl u
-  own-step (fetch j buffer lent) f u =
-      let n = fetchNumber a buffer lent in
-      let e = fetch-number-is n (a .waits) (a .waiting) (lentWords (a .area) lent) buffer in
-      subst (λ (x : Seat). Step x s (engineCall own n (a .job) (fetch j buffer lent) 0)) (sym (not-brought lent n (a .waits) f)) (fetch-step j n buffer lent (λ z. u (e ∙ z)))
-  own-step (heard j) f u = idle
-  own-step begin f u = idle
-  own-step (setShares shares eight) f u = idle
+  own-step (handIn role j rec lent) f u = hand-step rec lent (handNumber role a rec lent) (seatMustWait a) f
+  own-step (run role j request lent) f u = run-step role j request lent (runNumber role a request lent) refl u
+  own-step (fetch role j buffer lent) f u =
+      let n = fetchNumber role a buffer lent in
+      let w = seatBrings role a in
+      let e = fetch-number-is n w (a .waiting) (lentWords (a .area) lent) buffer in
+      subst (λ (x : Seat). Step x s (ifAllowed (mayFetch role) (engineFetch (a .job) buffer lent))) (sym (not-brought lent n w f)) (fetch-step buffer lent (mayFetch role) (λ z. u (e ∙ z)))
+  own-step (heard role j) f u = idle
+  own-step (begin role) f u = idle
+  own-step (setShares role shares eight) f u = idle
 
 -- ---- over a list of calls
 
@@ -193,50 +203,50 @@ module _ (i : ℕ) (small : i < 8) (l : Load) (g : Hub) (w : Eight (g .desk)) (b
       ap (engineCalls i g) (p .is) ∙ engine-append i small g (p .before) (c ∷ p .rest)
       ∙ ap (λ (t : List engine.Call). engineCalls i g (p .before) ++ (t ++ rest-calls p)) e
 
-  module _ (request : ℕ) (p : Place (run i request its) calls) where
+  module _ (role request : ℕ) (p : Place (run role i request its) calls) where
     abbrev run-hub : Hub
     run-hub = after g (p .before)
 
     abbrev run-call : RunCall
-    run-call = engineRun (jobAt (run-hub .desk) i) (answer run-hub (run i request its) .count) its
+    run-call = engineRun (jobAt (run-hub .desk) i) (answer run-hub (run role i request its) .count) its
 
-    run-split : answer run-hub (run i request its) .number ≡ 0 → engineCalls i g calls ≡ engineCalls i g (p .before) ++ engine.run run-call ∷ rest-calls p
+    run-split : answer run-hub (run role i request its) .number ≡ 0 → engineCalls i g calls ≡ engineCalls i g (p .before) ++ engine.run run-call ∷ rest-calls p
     run-split z =
         split p (engine.run run-call)
-        (ap₂ (λ (k : Kind) (n : ℕ). engineCall k n (jobAt (run-hub .desk) i) (run i request its) (answer run-hub (run i request its) .count)) (own-kind i) z)
+        (ap₂ (λ (k : Kind) (n : ℕ). engineCall k n (jobAt (run-hub .desk) i) (run role i request its) (answer run-hub (run role i request its) .count)) (own-kind i) z)
 
     -- what an accepted Run answers
-    run-told : answer run-hub (run i request its) .number ≡ 0 → answer run-hub (run i request its) ≡ ranAnswer (ran (stateAfter i l g (p .before)) run-call)
+    run-told : answer run-hub (run role i request its) .number ≡ 0 → answer run-hub (run role i request its) ≡ ranAnswer (ran (stateAfter i l g (p .before)) run-call)
     unfolding runDone
     run-told z =
         let a = seat i run-hub in
         let k = seatGrant a request in
         let q = told-here p (own-kind i) in
-        let n : runNumber a request its ≡ 0 = sym (run-number-is (runNumber a request its) (a .job) k (a .area)) ∙ sym (ap (λ (x : Answer). x .number) q) ∙ z in
+        let n : runNumber role a request its ≡ 0 = sym (run-number-is (runNumber role a request its) (a .job) k (a .area)) ∙ sym (ap (λ (x : Answer). x .number) q) ∙ z in
         let t = q ∙ ap (λ (m : ℕ). runAnswer m (a .job) k (a .area)) n in
-        t ∙ ran-told a (stateAfter i l g (p .before)) (beside-here p) request n
+        t ∙ ran-told a (stateAfter i l g (p .before)) (beside-here p) role request n
         ∙ ap (λ (m : ℕ). ranAnswer (ran (stateAfter i l g (p .before)) (engineRun (a .job) m its))) (sym (ap (λ (x : Answer). x .count) t))
 
-    run-clamps : answer run-hub (run i request its) .number ≡ 0
-        → (answer run-hub (run i request its) .clamps-r ≡ 0) × (answer run-hub (run i request its) .clamps-q ≡ 0)
+    run-clamps : answer run-hub (run role i request its) .number ≡ 0
+        → (answer run-hub (run role i request its) .clamps-r ≡ 0) × (answer run-hub (run role i request its) .clamps-q ≡ 0)
     run-clamps z =
         let k = kept .no-run-clamps run-call (record { before = engineCalls i g (p .before); rest = rest-calls p; is = run-split z }) in
         (ap (λ (x : Answer). x .clamps-r) (run-told z) ∙ k .0, ap (λ (x : Answer). x .clamps-q) (run-told z) ∙ k .1)
 
   -- a Run that is lent any area is refused, or it is lent the sector's
-  abbrev Unclamped : (request : ℕ) (lent : Lent) → Place (run i request lent) calls → Type 0
-  Unclamped request lent p = let x = answer (after g (p .before)) (run i request lent) in (x .clamps-r ≡ 0) × (x .clamps-q ≡ 0)
+  abbrev Unclamped : (role request : ℕ) (lent : Lent) → Place (run role i request lent) calls → Type 0
+  Unclamped role request lent p = let x = answer (after g (p .before)) (run role i request lent) in (x .clamps-r ≡ 0) × (x .clamps-q ≡ 0)
 
-  by-number : (request : ℕ) (lent : Lent) (p : Place (run i request lent) calls) (n : ℕ) → answer (after g (p .before)) (run i request lent) .number ≡ n → Unclamped request lent p
+  by-number : (role request : ℕ) (lent : Lent) (p : Place (run role i request lent) calls) (n : ℕ) → answer (after g (p .before)) (run role i request lent) .number ≡ n → Unclamped role request lent p
   unfolding EachLentIts
-  by-number request its p zero e = run-clamps request p e
-  by-number request (another m) p zero e = absurd (u (run i request (another m)) p (own-kind i) e)
-  by-number request lent p (suc n) e =
-      let x = refusals-change-nothing (after g (p .before)) (run i request lent) (λ z. omega (arith, e, z)) .answer in
+  by-number role request its p zero e = run-clamps role request p e
+  by-number role request (another m) p zero e = absurd (u (run role i request (another m)) p (own-kind i) e)
+  by-number role request lent p (suc n) e =
+      let x = refusals-change-nothing (after g (p .before)) (run role i request lent) (λ z. omega (arith, e, z)) .answer in
       (ap (λ (y : Answer). y .clamps-r) x, ap (λ (y : Answer). y .clamps-q) x)
 
   -- a Fetch at any point, whether or not it stands there
-  module _ (buffer : List ℕ) (p : Point calls) where
+  module _ (role : ℕ) (buffer : List ℕ) (p : Point calls) where
     abbrev fetch-hub : Hub
     fetch-hub = after g (p .before)
 
@@ -263,32 +273,43 @@ module _ (i : ℕ) (small : i < 8) (l : Load) (g : Hub) (w : Eight (g .desk)) (b
     abbrev fetch-place : Place (engine.fetch fetch-call) then-fetched
     fetch-place = record { before = engineCalls i g (p .before); rest = []; is = refl }
 
-    own-told : answer fetch-hub (fetch i buffer its) ≡ ownAnswer (seat i fetch-hub) (fetch i buffer its)
-    own-told = own-answer fetch-hub i small (eight-after g (p .before) w) (fetch i buffer its) (own-kind i)
+    own-told : answer fetch-hub (fetch role i buffer its) ≡ ownAnswer (seat i fetch-hub) (fetch role i buffer its)
+    own-told = own-answer fetch-hub i small (eight-after g (p .before) w) (fetch role i buffer its) (own-kind i)
 
-    fetch-told : answer fetch-hub (fetch i buffer its) ≡ fetchedAnswer fetch-state fetch-call (answer fetch-hub (fetch i buffer its) .words)
-    fetch-told =
-        own-told ∙ fetched-told (seat i fetch-hub) fetch-state beside-there buffer
+    fetch-told : mayFetch role ≡ true → answer fetch-hub (fetch role i buffer its) ≡ fetchedAnswer fetch-state fetch-call (answer fetch-hub (fetch role i buffer its) .words)
+    fetch-told m =
+        own-told ∙ fetched-told (seat i fetch-hub) fetch-state beside-there role buffer m
         ∙ ap (λ (x : Answer). fetchedAnswer fetch-state fetch-call (x .words)) (sym own-told)
 
-    fetch-left : loads fetch-hub (fetch i buffer its) ≡ false → answer fetch-hub (fetch i buffer its) .words ≡ fetch-state .workspace
+    fetch-left : loads fetch-hub (fetch role i buffer its) ≡ false → answer fetch-hub (fetch role i buffer its) .words ≡ fetch-state .workspace
     fetch-left f =
         let a = seat i fetch-hub in
-        let e = own-loads fetch-hub i small (eight-after g (p .before) w) (fetch i buffer its) (own-kind i) in
-        ap (λ (x : Answer). x .words) own-told ∙ fetched-left a fetch-state beside-there (fetchNumber a buffer its) (a .waits) buffer (sym e ∙ f)
+        let e = own-loads fetch-hub i small (eight-after g (p .before) w) (fetch role i buffer its) (own-kind i) in
+        ap (λ (x : Answer). x .words) own-told ∙ fetched-left a fetch-state beside-there (fetchNumber role a buffer its) (seatBrings role a) buffer (sym e ∙ f)
 
-    number-told : answer fetch-hub (fetch i buffer its) .number ≡ refusal fetch-state (engine.fetch fetch-call)
-    number-told = ap (λ (x : Answer). x .number) fetch-told
+    number-told : mayFetch role ≡ true → answer fetch-hub (fetch role i buffer its) .number ≡ refusal fetch-state (engine.fetch fetch-call)
+    number-told m = ap (λ (x : Answer). x .number) (fetch-told m)
 
-    fetch-iff : Accepted fetch-hub (fetch i buffer its) ↔ ((120 ≤ jobAt (fetch-hub .desk) i .turn) × (2049 ≤ length buffer))
+    -- an accepted one is of a role that may fetch
+    allowed : Accepted fetch-hub (fetch role i buffer its) → mayFetch role ≡ true
+    allowed z =
+        let a = seat i fetch-hub in
+        let n = fetchNumber role a buffer its in
+        fetch-passed role a buffer its (sym (fetch-number-is n (seatBrings role a) (a .waiting) (a .area) buffer) ∙ sym (ap (λ (x : Answer). x .number) own-told) ∙ z) .0
+
+    fetch-iff : Accepted fetch-hub (fetch role i buffer its) ↔ ((mayFetch role ≡ true) × (120 ≤ jobAt (fetch-hub .desk) i .turn) × (2049 ≤ length buffer))
     fetch-iff =
         let k = then-kept .fetch-accepted fetch-call fetch-place (refl, beside-there .job) in
         let t = beside-there .granted in
-        (λ z. (let x = k .0 (sym number-told ∙ z) in (omega (arith, t, x .0), x .1)), λ x. number-told ∙ k .1 (omega (arith, t, x .0), x .1))
+        let forth : Accepted fetch-hub (fetch role i buffer its) → (mayFetch role ≡ true) × (120 ≤ jobAt (fetch-hub .desk) i .turn) × (2049 ≤ length buffer) =
+        λ z. (let m = allowed z in let x = k .0 (sym (number-told m) ∙ z) in (m, omega (arith, t, x .0), x .1)) in
+        (forth, λ x. number-told (x .0) ∙ k .1 (omega (arith, t, x .1), x .2))
 
-    fetch-written : Accepted fetch-hub (fetch i buffer its)
-        → answer fetch-hub (fetch i buffer its) .buffer ≡ resultRecord (R (fetch-hub .area i)) (Q (fetch-hub .area i)) ++ drop 2049 buffer
-    fetch-written z = ap (λ (x : Answer). x .buffer) fetch-told ∙ rw (beside-there .area) (then-kept .written fetch-call fetch-place (sym number-told ∙ z))
+    fetch-written : Accepted fetch-hub (fetch role i buffer its)
+        → answer fetch-hub (fetch role i buffer its) .buffer ≡ resultRecord (R (fetch-hub .area i)) (Q (fetch-hub .area i)) ++ drop 2049 buffer
+    fetch-written z =
+        let m = allowed z in
+        ap (λ (x : Answer). x .buffer) (fetch-told m) ∙ rw (beside-there .area) (then-kept .written fetch-call fetch-place (sym (number-told m) ∙ z))
 
   -- once all turns are granted
   factored-at : (p : Point calls)
@@ -338,8 +359,8 @@ sector-demand-3 i areas before c calls l small d f u =
       kept = kept i small l g x b calls f u;
       follows = λ p. let y = at i small l g x b calls f u p .beside in record { area = y .area; job = y .job; granted = y .granted };
       runs = run-told i small l g x b calls f u;
-      fetches = λ buffer p. (fetch-told i small l g x b calls f u buffer p, fetch-left i small l g x b calls f u buffer p);
-      no-clamps = λ request lent p. by-number i small l g x b calls f u request lent p _ refl;
+      fetches = λ role buffer p m. (fetch-told i small l g x b calls f u role buffer p m, fetch-left i small l g x b calls f u role buffer p);
+      no-clamps = λ role request lent p. by-number i small l g x b calls f u role request lent p _ refl;
       fetch-accepted = fetch-iff i small l g x b calls f u;
       written = fetch-written i small l g x b calls f u;
       factored = factored-at i small l g x b calls f u;

@@ -23,9 +23,10 @@ use Rattle.engine.proofs.Taken.{possible-next}
 use Rattle.accuracy.specs.Demand3.{Load}
 use Rattle.accuracy.proofs.Loading.{loaded-room}
 use Rattle.desk.specs.Desk.{unloadedJob, jobAt}
+use Rattle.desk.specs.Roles.{operator}
 use Rattle.desk.specs.HandIn.{handInRefusal}
 use Rattle.desk.specs.Fetch.{deskFetchRefusal}
-use Rattle.desk.specs.Shares.{totalOf, sharesTest}
+use Rattle.desk.specs.Shares.{totalOf, sharesTest, setSharesRefusal}
 use Rattle.desk.proofs.Accepted.{sector-passes, left-passes}
 use Rattle.desk_laws.specs.Calls.{its, Call, handIn, run, fetch, begin, Hub, new, loadsIf, loads, next, after, Accepted, Kind, own, other, setting, settingBy, kind, Loads, NoLoad, EachNoLoad, OwnLent, EachLentIts}
 use Rattle.desk_laws.specs.Ledger.{Ledger, fresh, ifAccepted, noted, ledgerAfter}
@@ -49,6 +50,7 @@ only-total i s small =
     ∙ only-own i s small
 
 given-kind : (i s : ℕ) → i < 8 → s ≤ 120 → kind i (giving i s) ≡ setting s
+unfolding setSharesRefusal
 given-kind i s small fits =
     let t = only-total i s small in
     let z : sharesTest (onlyFor i s) ≡ 0 = rw (le-ltb 120 (totalOf (onlyFor i s)) (omega (arith, t))) in
@@ -69,7 +71,7 @@ loaded-ready s a rec l bytes room f =
 
 -- with its whole share left it is granted that much, or what its job has left
 module _ (s n : ℕ) (positive : 0 < s) (a : Seat) (x : Ready s n a) (full : a .left ≡ s) where
-  taken : runNumber a s its ≡ 0
+  taken : runNumber operator a s its ≡ 0
   taken =
       let r = run-passes (a .job) (a .area) (record { room = x .room; possible = x .possible }) in
       rw (r, left-passes (a .job) (a .left) s (omega (arith, full, positive)))
@@ -85,7 +87,7 @@ module _ (s n : ℕ) (positive : 0 < s) (a : Seat) (x : Ready s n a) (full : a .
         room = omega (arith, words-length (a .job .turn) (seatGrant a s) (a .area) fits (x .room), x .room);
       }
 
-  granted : Ready s (n + s) (runSeat (runNumber a s its) a (seatGrant a s) its)
+  granted : Ready s (n + s) (runSeat (runNumber operator a s its) a (seatGrant a s) its)
   granted = subst (λ (k : ℕ). Ready s (n + s) (runSeat k a (seatGrant a s) its)) (sym taken) ran
 
 -- ---- the calls of others
@@ -111,7 +113,7 @@ never-own e f = absurd (let z : _≡_ {A = ℕ} 0 1 = cc in omega arith)
 
 module _ (i s : ℕ) (small : i < 8) (positive : 0 < s) (others : List Call) (none : (c : Call) → Place c others → kind i c ≡ other) where
   abbrev round-calls : List Call
-  round-calls = others ++ run i s its ∷ []
+  round-calls = others ++ run operator i s its ∷ []
 
   -- what the premises say of the calls from here on, and how the sector stands after them
   pub record Going (h : Hub) (n : ℕ) (calls : List Call) : Type 0 where
@@ -121,7 +123,7 @@ module _ (i s : ℕ) (small : i < 8) (positive : 0 < s) (others : List Call) (no
 
   module _ (h : Hub) (w : Eight (h .desk)) (n : ℕ) (x : Ready s n (seat i h)) where
     abbrev begun : Hub
-    begun = next h begin
+    begun = next h (begin operator)
 
     abbrev before-run : Hub
     before-run = after begun others
@@ -135,34 +137,34 @@ module _ (i s : ℕ) (small : i < 8) (positive : 0 < s) (others : List Call) (no
     by-others : (Q : Hub → Call → Type 0) → ((g : Hub) (c : Call) → kind i c ≡ other → seat i g ≡ full → Q g c)
         → Along next Q begun others × (seat i before-run ≡ full)
     by-others Q f =
-        quiet i small Q full f begun others (eight-next h begin w) (along-of next (ByOther i) begun others (λ c p. none c p)) (seat-next h i small w begin)
+        quiet i small Q full f begun others (eight-next h (begin operator) w) (along-of next (ByOther i) begun others (λ c p. none c p)) (seat-next h i small w (begin operator))
 
     stays : seat i before-run ≡ full
     stays = by-others (ByOther i) (λ g c o e. o) .1
 
-    ends : seat i (after begun round-calls) ≡ runSeat (runNumber full s its) full (seatGrant full s) its
+    ends : seat i (after begun round-calls) ≡ runSeat (runNumber operator full s its) full (seatGrant full s) its
     unfolding afterAll
     ends =
-        ap (seat i) (after-append next begun others (run i s its ∷ []))
-        ∙ own-next before-run i small (eight-after begun others (eight-next h begin w)) (run i s its) (own-kind i)
-        ∙ ap (λ (a : Seat). ownNext a (run i s its)) stays
+        ap (seat i) (after-append next begun others (run operator i s its ∷ []))
+        ∙ own-next before-run i small (eight-after begun others (eight-next h (begin operator) w)) (run operator i s its) (own-kind i)
+        ∙ ap (λ (a : Seat). ownNext a (run operator i s its)) stays
 
     requested : Requests i s begun round-calls
     requested =
         record { request = s; lent = its; place = record { before = others; rest = []; is = refl }; enough = le-refl s; room = subst (λ (a : Seat). 512 ≤ length (a .area)) (sym stays) (x .room) }
 
-    went : Going h (n + s) (begin ∷ round-calls)
+    went : Going h (n + s) (begin operator ∷ round-calls)
     unfolding Along afterAll
     went = record {
       undisturbed = (
         record { share = λ e. x .share; not-loaded = λ o. refl },
-        along-append next (Undisturbed i s) begun others (run i s its ∷ [])
+        along-append next (Undisturbed i s) begun others (run operator i s its ∷ [])
             (by-others (Undisturbed i s) (λ g c o e. record { share = λ z. ap (λ (a : Seat). a .share) e ∙ x .share; not-loaded = λ z. never-own o z }) .0)
             (record { share = λ z. ap (λ (a : Seat). a .share) stays ∙ x .share; not-loaded = λ o. refl }, tt),
       );
       lent = (
         λ o z. tt,
-        along-append next (OwnLent i) begun others (run i s its ∷ []) (by-others (OwnLent i) (λ g c o e z. never-own o z) .0) (λ o z. tt, tt),
+        along-append next (OwnLent i) begun others (run operator i s its ∷ []) (by-others (OwnLent i) (λ g c o e z. never-own o z) .0) (λ o z. tt, tt),
       );
       ready = subst (Ready s (n + s)) (sym ends) (granted s n positive full full-ready (x .share));
     }
@@ -179,11 +181,11 @@ module _ (i s : ℕ) (small : i < 8) (positive : 0 < s) (others : List Call) (no
       let g = after (begun h w n x) round-calls in
       let rest = inRounds (requesting i s others m) in
       let first = went h w n x in
-      let later = all-went m g (eight-after (begun h w n x) round-calls (eight-next h begin w)) (n + s) (first .ready) in
+      let later = all-went m g (eight-after (begun h w n x) round-calls (eight-next h (begin operator) w)) (n + s) (first .ready) in
       let e : n + s + m * s ≡ n + suc m * s = omega (arith, suc-mul m s) in (
         record {
-          undisturbed = along-append next (Undisturbed i s) h (begin ∷ round-calls) rest (first .undisturbed) (later .0 .undisturbed);
-          lent = along-append next (OwnLent i) h (begin ∷ round-calls) rest (first .lent) (later .0 .lent);
+          undisturbed = along-append next (Undisturbed i s) h (begin operator ∷ round-calls) rest (first .undisturbed) (later .0 .undisturbed);
+          lent = along-append next (OwnLent i) h (begin operator ∷ round-calls) rest (first .lent) (later .0 .lent);
           ready = subst (λ (b : Hub). Ready s (n + suc m * s) (seat i b)) (sym (after-append next (begun h w n x) round-calls rest)) (subst (λ (k : ℕ). Ready s k (seat i (after g rest))) e (later .0 .ready));
         },
         (requested h w n x, later .1),
@@ -196,9 +198,9 @@ module _ (i s : ℕ) (small : i < 8) (positive : 0 < s) (others : List Call) (no
   rounds-calm zero h = tt
   rounds-calm (suc m) h = (
     λ o. tt,
-    along-append next (Calm i) (next h begin) round-calls (inRounds (requesting i s others m))
-        (along-append next (Calm i) (next h begin) others (run i s its ∷ []) (along-of next (Calm i) (next h begin) others (λ c p o. never-own (none c p) o)) (λ o. tt, tt))
-        (rounds-calm m (after (next h begin) round-calls)),
+    along-append next (Calm i) (next h (begin operator)) round-calls (inRounds (requesting i s others m))
+        (along-append next (Calm i) (next h (begin operator)) others (run operator i s its ∷ []) (along-of next (Calm i) (next h (begin operator)) others (λ c p o. never-own (none c p) o)) (λ o. tt, tt))
+        (rounds-calm m (after (next h (begin operator)) round-calls)),
   )
 
 -- a Fetch brings nothing in where none waits
@@ -213,7 +215,7 @@ module _ (i s : ℕ) (small : i < 8) (positive : 0 < s) (fits : s ≤ 120) (area
   given-hub = next (new areas) (giving i s)
 
   abbrev handing : Call
-  handing = handIn i (l .bytes) its
+  handing = handIn operator i (l .bytes) its
 
   abbrev rounds : List Call
   rounds = inRounds (requesting i s others m)
@@ -233,7 +235,7 @@ module _ (i s : ℕ) (small : i < 8) (positive : 0 < s) (fits : s ≤ 120) (area
       ap seatMustWait given-seat
       ∙ ap₂ (λ (b : Bool) (j : Job). b || ltb (j .turn) 120) (none-waits i small areas) (getD-replicate 8 i unloadedJob _ small)
 
-  pub passes : handNumber (seat i given-hub) (l .bytes) its ≡ 0
+  pub passes : handNumber operator (seat i given-hub) (l .bytes) its ≡ 0
   passes = rw its-area (l .accepted)
 
   pub taken-in : Loads i given-hub handing
@@ -272,7 +274,7 @@ module _ (i s : ℕ) (small : i < 8) (positive : 0 < s) (fits : s ≤ 120) (area
 
   module _ (buffer : List ℕ) where
     abbrev fetching : List Call
-    fetching = fetch i buffer its ∷ []
+    fetching = fetch operator i buffer its ∷ []
 
     lent-later : Along next (OwnLent i) (next given-hub handing) (rounds ++ fetching)
     unfolding Along
@@ -286,8 +288,8 @@ module _ (i s : ℕ) (small : i < 8) (positive : 0 < s) (fits : s ≤ 120) (area
     unfolding EachLentIts
     lent-since = each-of next (OwnLent i) (next given-hub handing) (rounds ++ fetching) lent-later
 
-    not-brought-in : loads (after (next given-hub handing) rounds) (fetch i buffer its) ≡ false
-    not-brought-in = no-load (deskFetchRefusal _ i _ buffer) (calm .waits ∙ ap (λ (a : Seat). a .waits) loaded-seat)
+    not-brought-in : loads (after (next given-hub handing) rounds) (fetch operator i buffer its) ≡ false
+    not-brought-in = no-load (deskFetchRefusal operator _ i _ buffer) (calm .waits ∙ ap (λ (a : Seat). a .waits) loaded-seat)
 
     loaded-once : EachNoLoad i (next given-hub handing) (rounds ++ fetching)
     unfolding EachNoLoad Along
@@ -302,18 +304,18 @@ module _ (i s : ℕ) (small : i < 8) (positive : 0 < s) (fits : s ≤ 120) (area
     unfolding ledgerAfter afterAll
     loaded-by = record { loads = taken-in; source = ap (λ (g : Ledger). g .source) entry-is; lent = its-area }
 
-    fetched : 2049 ≤ length buffer → 120 ≤ m * s → Accepted (after (next given-hub handing) rounds) (fetch i buffer its)
+    fetched : 2049 ≤ length buffer → 120 ≤ m * s → Accepted (after (next given-hub handing) rounds) (fetch operator i buffer its)
     unfolding afterAll
     fetched space enough =
         let kept = sector-demand-3 i areas (giving i s ∷ []) handing (rounds ++ fetching) l small loaded-by loaded-once lent-since in
         let t = turn-is in
-        kept .fetch-accepted buffer (record { before = rounds; rest = fetching; is = refl }) .1 (omega (arith, t, enough), space)
+        kept .fetch-accepted operator buffer (record { before = rounds; rest = fetching; is = refl }) .1 (refl, omega (arith, t, enough), space)
 
 pub served-in-rounds : ServedInRounds
 unfolding afterAll EachUndisturbed
 served-in-rounds i s areas l others m buffer small positive fits same none space =
     let g = going i s small positive fits areas l same others none m in
-    let h = next (next (new areas) (giving i s)) (handIn i (l .bytes) its) in
+    let h = next (next (new areas) (giving i s)) (handIn operator i (l .bytes) its) in
     record {
       loaded = taken-in i s small positive fits areas l same others none m;
       undisturbed = each-of next (Undisturbed i s) h (inRounds (requesting i s others m)) (g .0 .undisturbed);
@@ -348,19 +350,19 @@ no-round-fewer i areas l others small same none =
 
 -- ---- a sector that is not served
 
-empty-refused : (i : ℕ) (areas : ℕ → List ℤ) → i < 8 → loads (new areas) (handIn i [] its) ≡ false
+empty-refused : (i : ℕ) (areas : ℕ → List ℤ) → i < 8 → loads (new areas) (handIn operator i [] its) ≡ false
 unfolding handInRefusal loadRefusal headerTest
 empty-refused i areas small = rw (sector-passes i small)
 
 -- up to the Fetch, so that none waits there
-unserved-before : (i request : ℕ) (areas : ℕ → List ℤ) → i < 8 → EachNoLoad i (new areas) (handIn i [] its ∷ run i request its ∷ begin ∷ [])
+unserved-before : (i request : ℕ) (areas : ℕ → List ℤ) → i < 8 → EachNoLoad i (new areas) (handIn operator i [] its ∷ run operator i request its ∷ begin operator ∷ [])
 unfolding EachNoLoad Along
 unserved-before i request areas small =
-    each-of next (NoLoad i) (new areas) (handIn i [] its ∷ run i request its ∷ begin ∷ []) (λ o. empty-refused i areas small, (λ o. refl, (λ o. refl, tt)))
+    each-of next (NoLoad i) (new areas) (handIn operator i [] its ∷ run operator i request its ∷ begin operator ∷ []) (λ o. empty-refused i areas small, (λ o. refl, (λ o. refl, tt)))
 
 pub unserved-possible : UnservedPossible
 unfolding EachNoLoad Along afterAll
 unserved-possible i request areas buffer small =
-    let z = never-loaded i areas (handIn i [] its ∷ run i request its ∷ begin ∷ []) small (unserved-before i request areas small) .waits in
+    let z = never-loaded i areas (handIn operator i [] its ∷ run operator i request its ∷ begin operator ∷ []) small (unserved-before i request areas small) .waits in
     each-of next (NoLoad i) (new areas) (unserved i request buffer)
-    (λ o. empty-refused i areas small, (λ o. refl, (λ o. refl, (λ o. no-load (deskFetchRefusal _ i _ buffer) z, (λ o. refl, tt)))))
+    (λ o. empty-refused i areas small, (λ o. refl, (λ o. refl, (λ o. no-load (deskFetchRefusal operator _ i _ buffer) z, (λ o. refl, tt)))))

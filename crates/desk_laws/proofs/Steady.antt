@@ -7,7 +7,7 @@ use lib.Dec.{T}
 use Rattle.lists.specs.Histories.{afterAll}
 use Rattle.lists.proofs.Histories.{Along}
 use Rattle.desk_laws.specs.Calls.{Lent, Call, handIn, run, fetch, heard, begin, setShares, Hub, loadsIf, next, after, Kind, own, other, round, setting, kind, NoLoad}
-use Rattle.desk_laws.proofs.Seats.{Seat, seat, Eight, keptSeat, handSeat, runSeat, fetchSeat, handNumber, seatMustWait, runNumber, fetchNumber, seatGrant, ownNext, ownLoads, own-loads, refilled, sharing, step, seat-next, eight-next}
+use Rattle.desk_laws.proofs.Seats.{Seat, seat, Eight, keptSeat, handSeat, runSeat, fetchSeat, handNumber, seatMustWait, runNumber, fetchNumber, seatBrings, seatGrant, ownNext, ownLoads, own-loads, refilled, sharing, step, seat-next, eight-next}
 
 -- P is kept by a Run, granted or refused, by a matrix that must wait, by the begin of a round where Q holds, and by a share that the sector is given
 pub record Steady (Q P : Seat → Type 0) : Type 0 where
@@ -22,18 +22,18 @@ module _ (Q P : Seat → Type 0) (r : Steady Q P) where
   hand-steady a rec lent zero false e f x = absurd (subst T f tt)
   hand-steady a rec lent (suc n) must e f x = x
 
-  fetch-steady : (a : Seat) (lent : Lent) (n : ℕ) (waits : Bool) → loadsIf n waits ≡ false → P a → P (fetchSeat n waits a lent)
+  fetch-steady : (a : Seat) (lent : Lent) (n : ℕ) (brought : Bool) → loadsIf n brought ≡ false → P a → P (fetchSeat n brought a lent)
   fetch-steady a lent zero true f x = absurd (subst T f tt)
   fetch-steady a lent zero false f x = x
-  fetch-steady a lent (suc n) waits f x = x
+  fetch-steady a lent (suc n) brought f x = x
 
   own-steady : (a : Seat) (c : Call) → ownLoads a c ≡ false → P a → P (ownNext a c)
-  own-steady a (handIn j rec lent) f x = hand-steady a rec lent (handNumber a rec lent) (seatMustWait a) refl f x
-  own-steady a (run j request lent) f x = r .ran (runNumber a request lent) request a lent x
-  own-steady a (fetch j buffer lent) f x = fetch-steady a lent (fetchNumber a buffer lent) (a .waits) f x
-  own-steady a (heard j) f x = x
-  own-steady a begin f x = x
-  own-steady a (setShares shares eight) f x = x
+  own-steady a (handIn role j rec lent) f x = hand-steady a rec lent (handNumber role a rec lent) (seatMustWait a) refl f x
+  own-steady a (run role j request lent) f x = r .ran (runNumber role a request lent) request a lent x
+  own-steady a (fetch role j buffer lent) f x = fetch-steady a lent (fetchNumber role a buffer lent) (seatBrings role a) f x
+  own-steady a (heard role j) f x = x
+  own-steady a (begin role) f x = x
+  own-steady a (setShares role shares eight) f x = x
 
   module _ (i : ℕ) (small : i < 8) (h : Hub) (c : Call) (w : Eight (h .desk)) (f : NoLoad i h c) (q : kind i c ≡ round → Q (seat i h)) (x : P (seat i h)) where
     steady-kind : (k : Kind) → kind i c ≡ k → P (step k c (seat i h))

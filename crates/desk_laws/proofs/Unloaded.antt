@@ -1,6 +1,6 @@
 -- A sector never loaded has the job (120, 0) and heard byte 0, and what its calls answer follows from that. Assumes nothing.
 use mathlib.Core.Path.{_≡_, refl, sym, ap, ap₂, _∙_, subst}
-use mathlib.Core.Bool.{Bool, true, false, _||_}
+use mathlib.Core.Bool.{Bool, true, false, _&&_, _||_}
 use mathlib.Core.List.{List, []}
 use Prim.Native.Nat.{ℕ, zero, suc, _<_}
 use native.Mathlib.Omega.{arith}
@@ -19,6 +19,7 @@ use Rattle.engine.specs.Fetch.{fetchRefusal, fetchBy}
 use Rattle.engine.proofs.Taken.{none-taken}
 use Rattle.desk.proofs.Accepted.{finished-passes}
 use Rattle.desk.specs.Desk.{unloadedJob}
+use Rattle.desk.specs.Roles.{mayOperate, mayFetch, roleTest}
 use Rattle.desk_laws.specs.Calls.{Lent, Call, run, fetch, heard, new, lentWords, bare, answer, next, after, own, kind, NoLoad, EachNoLoad}
 use Rattle.desk_laws.specs.Unloaded.{ranNothing, NeverLoaded}
 use Rattle.desk_laws.specs.Sectors.{ranAnswer}
@@ -64,15 +65,16 @@ module _ (i : ℕ) (small : i < 8) (areas : ℕ → List ℤ) where
 -- ---- what its calls answer
 
 module _ (a : Seat) (e : Empty a) where
-  run-refused : (request : ℕ) (lent : Lent) → runNumber a request lent ≡ workspaceTest (lentWords (a .area) lent)
+  run-refused : (role request : ℕ) (lent : Lent) → runNumber role a request lent ≡ first (roleTest (mayOperate role)) (workspaceTest (lentWords (a .area) lent))
   unfolding runRefusal jobTest
-  run-refused request lent =
+  run-refused role request lent =
       let n = workspaceTest (lentWords (a .area) lent) in
       rw (e .job, finished-passes unloadedJob (a .left) request (omega arith), first-alone (first n 0), first-alone n)
 
-  fetch-refused : (buffer : List ℕ) (lent : Lent) → (let l = lentWords (a .area) lent in fetchNumber a buffer lent ≡ first (workspaceTest l) (first (bufferTest 2049 buffer) (resultTest (R l))))
+  fetch-refused : (role : ℕ) (buffer : List ℕ) (lent : Lent)
+      → (let l = lentWords (a .area) lent in fetchNumber role a buffer lent ≡ first (roleTest (mayFetch role)) (first (workspaceTest l) (first (bufferTest 2049 buffer) (resultTest (R l)))))
   unfolding fetchRefusal jobTest
-  fetch-refused buffer lent = rw (e .job)
+  fetch-refused role buffer lent = rw (e .job)
 
   ran-nothing : (request n : ℕ) (l : List ℤ) → runAnswer n (a .job) (seatGrant a request) l ≡ ranNothing n l
   unfolding runDone
@@ -80,10 +82,11 @@ module _ (a : Seat) (e : Empty a) where
       ap (λ (k : ℕ). ranAnswer (runDone (a .job) k l)) (no-grant a request (ap (λ (j : Job). j .turn) (e .job))) ∙ ap ranAnswer (none-taken (a .job) l) ∙ ap (λ (j : Job). record { number = 0; heard = 0; job = j; count = 0; clamps-r = 0; clamps-q = 0; buffer = []; words = l }) (e .job)
   ran-nothing request (suc n) l = refl
 
-  fetched-nothing : (n : ℕ) (l : List ℤ) (buffer : List ℕ) → fetchAnswer n (a .waits) (a .waiting) l buffer ≡ bare n (fetchBy n l buffer .buffer) l
+  fetched-nothing : (n : ℕ) (b : Bool) (l : List ℤ) (buffer : List ℕ) → fetchAnswer n (b && a .waits) (a .waiting) l buffer ≡ bare n (fetchBy n l buffer .buffer) l
   unfolding fetchBy
-  fetched-nothing zero l buffer = rw (e .waits)
-  fetched-nothing (suc n) l buffer = refl
+  fetched-nothing zero true l buffer = rw (e .waits)
+  fetched-nothing zero false l buffer = refl
+  fetched-nothing (suc n) b l buffer = refl
 
 pub never-loaded : NeverLoaded
 unfolding EachNoLoad
@@ -97,11 +100,11 @@ never-loaded i areas calls small f =
       job = e .job;
       heard = e .heard;
       waits = e .waits;
-      run = λ request lent.
-          told (run i request lent) (own-kind i) ∙ ran-nothing a e request (runNumber a request lent) (lentWords (a .area) lent)
-          ∙ ap (λ (n : ℕ). ranNothing n (lentWords (a .area) lent)) (run-refused a e request lent);
-      fetch = λ buffer lent.
+      run = λ role request lent.
+          told (run role i request lent) (own-kind i) ∙ ran-nothing a e request (runNumber role a request lent) (lentWords (a .area) lent)
+          ∙ ap (λ (n : ℕ). ranNothing n (lentWords (a .area) lent)) (run-refused a e role request lent);
+      fetch = λ role buffer lent.
           let l = lentWords (a .area) lent in
-          told (fetch i buffer lent) (own-kind i) ∙ fetched-nothing a e (fetchNumber a buffer lent) l buffer
-          ∙ ap (λ (n : ℕ). bare n (fetchBy n l buffer .buffer) l) (fetch-refused a e buffer lent);
+          told (fetch role i buffer lent) (own-kind i) ∙ fetched-nothing a e (fetchNumber role a buffer lent) (mayOperate role) l buffer
+          ∙ ap (λ (n : ℕ). bare n (fetchBy n l buffer .buffer) l) (fetch-refused a e role buffer lent);
     }

@@ -46,12 +46,12 @@ loadWork true nothing = []
 loadWork false m = []
 
 abbrev pub runWork : Call → ℕ → List Work
-runWork (handIn i rec lent) count = []
-runWork (run i request lent) count = turns count ∷ []
-runWork (fetch i buffer lent) count = []
-runWork (heard i) count = []
-runWork begin count = []
-runWork (setShares shares eight) count = []
+runWork (handIn role i rec lent) count = []
+runWork (run role i request lent) count = turns count ∷ []
+runWork (fetch role i buffer lent) count = []
+runWork (heard role i) count = []
+runWork (begin role) count = []
+runWork (setShares role shares eight) count = []
 
 -- by kind, and by the call's number; `source` is what the job is loaded from, where the call loads
 abbrev pub worksOf : Kind → ℕ → Bool → Handed → Call → ℕ → List Work

@@ -23,12 +23,12 @@ fresh = record { handed = nothing; source = nothing; since = [] }
 
 -- by an accepted call
 abbrev pub handedBy : Call → Handed → Handed
-handedBy (handIn i rec lent) m = matrix rec
-handedBy (run i request lent) m = m
-handedBy (fetch i buffer lent) m = m
-handedBy (heard i) m = m
-handedBy begin m = m
-handedBy (setShares shares eight) m = m
+handedBy (handIn role i rec lent) m = matrix rec
+handedBy (run role i request lent) m = m
+handedBy (fetch role i buffer lent) m = m
+handedBy (heard role i) m = m
+handedBy (begin role) m = m
+handedBy (setShares role shares eight) m = m
 
 -- by whether it loads the sector
 abbrev pub entered : Bool → Call → Ledger → Ledger

@@ -1,6 +1,7 @@
 -- The desk's laws: lists of calls, and what holds of each.
 pub mod Calls
 pub mod Refusals
+pub mod Views
 pub mod Ledger
 pub mod Alone
 pub mod Isolation

@@ -1,6 +1,7 @@
--- Document 02, U11: the results that are fetched, and until when they can be fetched again. Assumes nothing.
+-- Document 02, U11: the results that are fetched, by the operator or by a fitter, and until when they can be fetched again. Assumes nothing.
 use mathlib.Core.Path.{_≡_}
 use mathlib.Core.Logic.{_↔_}
+use mathlib.Core.Bool.{true}
 use mathlib.Core.List.{List, _∷_, _++_}
 use Prim.Native.Nat.{ℕ, _≤_, _<_}
 use lib.IntN.{ℤ}
@@ -11,6 +12,7 @@ use Rattle.result_record.specs.ResultRecord.{resultBytes, resultRecord}
 use Rattle.workspace.specs.Workspace.{R, Q}
 use Rattle.accuracy.specs.Factorization.{Factorization}
 use Rattle.desk.specs.Desk.{sectorCount, jobAt}
+use Rattle.desk.specs.Roles.{mayFetch}
 use Rattle.desk_laws.specs.Calls.{its, Call, fetch, Hub, new, answer, after, Accepted, EachNoLoad}
 use Rattle.desk_laws.specs.Ledger.{Ledger, matrix, ledger, EachIts}
 
@@ -28,22 +30,22 @@ pub record Result (rec : List ℕ) (words : List ℤ) (buffer written : List ℕ
   pub factored : Factorization (realEntry rec) (R words) (Q words)
 
 -- the bounds hold for each result fetched from a sector that was loaded, against the matrix that its job was loaded from, whether or not another one waits; and
--- once all 120 turns were granted there is one, for every buffer of 2,049 bytes or more
-pub record Fetched (i : ℕ) (h : Hub) (buffer rec : List ℕ) : Type 0 where
-  pub result : Accepted h (fetch i buffer its) → Result rec (h .area i) buffer (answer h (fetch i buffer its) .buffer)
-  pub accepted : Accepted h (fetch i buffer its) ↔ ((rotationCount ≤ jobAt (h .desk) i .turn) × (resultBytes ≤ length buffer))
+-- once all 120 turns were granted there is one, for every role that may fetch and every buffer of 2,049 bytes or more
+pub record Fetched (role i : ℕ) (h : Hub) (buffer rec : List ℕ) : Type 0 where
+  pub result : Accepted h (fetch role i buffer its) → Result rec (h .area i) buffer (answer h (fetch role i buffer its) .buffer)
+  pub accepted : Accepted h (fetch role i buffer its) ↔ ((mayFetch role ≡ true) × (rotationCount ≤ jobAt (h .desk) i .turn) × (resultBytes ≤ length buffer))
 
 abbrev pub ResultsAccurate : Type 0
-ResultsAccurate = (i : ℕ) (areas : ℕ → List ℤ) (calls : List Call) (buffer rec : List ℕ) → i < sectorCount → InStep rec (ledger i areas calls)
-    → Fetched i (after (new areas) calls) buffer rec
+ResultsAccurate = (role i : ℕ) (areas : ℕ → List ℤ) (calls : List Call) (buffer rec : List ℕ) → i < sectorCount → InStep rec (ledger i areas calls)
+    → Fetched role i (after (new areas) calls) buffer rec
 
--- after an accepted Fetch that brings nothing in, until the next load, each Fetch of the same area with room for a record is accepted and writes the same bytes,
--- whatever is called between
+-- after an accepted Fetch that brings nothing in, a fitter's or one with none waiting, until the next load, each Fetch of the same area with room for a record, by
+-- a role that may fetch, is accepted and writes the same bytes, whatever is called between
 abbrev pub FetchRepeats : Type 0
-FetchRepeats = (i : ℕ) (areas : ℕ → List ℤ) (before between : List Call) (buffer buffer′ : List ℕ) → i < sectorCount
+FetchRepeats = (role role′ i : ℕ) (areas : ℕ → List ℤ) (before between : List Call) (buffer buffer′ : List ℕ) → i < sectorCount
     → (let h = after (new areas) before in
-    let c = fetch i buffer its in
+    let c = fetch role i buffer its in
     let g = after h (c ∷ between) in
-    let d = fetch i buffer′ its in
-    Accepted h c → EachNoLoad i h (c ∷ between) → resultBytes ≤ length buffer′
+    let d = fetch role′ i buffer′ its in
+    Accepted h c → EachNoLoad i h (c ∷ between) → mayFetch role′ ≡ true → resultBytes ≤ length buffer′
     → Accepted g d × (take resultBytes (answer g d .buffer) ≡ take resultBytes (answer h c .buffer)))

@@ -2,7 +2,7 @@
 -- calls that meets demand 3's premise, and what they answer is what the desk's calls answer. Assumes nothing.
 use mathlib.Core.Path.{_≡_}
 use mathlib.Core.Logic.{_↔_}
-use mathlib.Core.Bool.{false}
+use mathlib.Core.Bool.{Bool, true, false}
 use mathlib.Core.List.{List, [], _∷_, _++_}
 use Prim.Native.Nat.{ℕ, zero, suc, _≤_, _<_}
 use lib.IntN.{ℤ}
@@ -18,6 +18,7 @@ use Rattle.accuracy.specs.Factorization.{Factorization}
 use Rattle.accuracy.specs.Demand3.{Load, State, RunCall, FetchCall, ran, refusal, fetched, start, EachInStep, Kept}
 use Rattle.accuracy.specs.Demand3 as engine
 use Rattle.desk.specs.Desk.{sectorCount, jobAt}
+use Rattle.desk.specs.Roles.{mayFetch}
 use Rattle.desk_laws.specs.Calls.{Lent, its, another, Call, handIn, run, fetch, heard, begin, setShares, Hub, new, loads, Answer, bare, answer, next, after, Accepted, Kind, own, other, round, setting, kind, Loads, EachNoLoad, EachLentIts}
 use Rattle.desk_laws.specs.Refusals.{wordsLent}
 use Rattle.desk_laws.specs.Ledger.{matrix, ledger}
@@ -36,15 +37,20 @@ engineRun job count lent = record { job = job; budget = count; lent = lentEngine
 abbrev pub engineFetch : Job → List ℕ → Lent → FetchCall
 engineFetch job buffer lent = record { job = job; lent = lentEngine lent; buffer = buffer }
 
--- by kind, and by the call's number: a Run that the desk refuses makes no call of the engine
+-- a Fetch of a role that may not fetch makes no call of the engine
+abbrev pub ifAllowed : Bool → FetchCall → List engine.Call
+ifAllowed true f = engine.fetch f ∷ []
+ifAllowed false f = []
+
+-- by kind, and by the call's number: nor does a Run that the desk refuses
 abbrev pub engineCall : Kind → ℕ → Job → Call → ℕ → List engine.Call
-engineCall own zero job (run i request lent) count = engine.run (engineRun job count lent) ∷ []
-engineCall own (suc n) job (run i request lent) count = []
-engineCall own number job (fetch i buffer lent) count = engine.fetch (engineFetch job buffer lent) ∷ []
-engineCall own number job (handIn i rec lent) count = []
-engineCall own number job (heard i) count = []
-engineCall own number job begin count = []
-engineCall own number job (setShares shares eight) count = []
+engineCall own zero job (run role i request lent) count = engine.run (engineRun job count lent) ∷ []
+engineCall own (suc n) job (run role i request lent) count = []
+engineCall own number job (fetch role i buffer lent) count = ifAllowed (mayFetch role) (engineFetch job buffer lent)
+engineCall own number job (handIn role i rec lent) count = []
+engineCall own number job (heard role i) count = []
+engineCall own number job (begin role) count = []
+engineCall own number job (setShares role shares eight) count = []
 engineCall other number job c count = []
 engineCall round number job c count = []
 engineCall (setting s) number job c count = []
@@ -81,27 +87,27 @@ pub record SectorKept (i : ℕ) (l : Load) (g : Hub) (calls : List Call) : Type 
   -- which is one about the sector's area and job
   pub follows : (p : Point calls) → Follows i (after g (p .before)) (stateAfter i l g (p .before))
   -- about what its accepted Runs answer
-  pub runs : (request : ℕ) (p : Place (run i request its) calls)
+  pub runs : (role request : ℕ) (p : Place (run role i request its) calls)
       → (let h = after g (p .before) in
-      let a = answer h (run i request its) in
+      let a = answer h (run role i request its) in
       a .number ≡ 0 → a ≡ ranAnswer (ran (stateAfter i l g (p .before)) (engineRun (jobAt (h .desk) i) (a .count) its)))
-  -- and about what a Fetch answers at any point, a refused one too and one that brings in; one that does not leaves the area as it was
-  pub fetches : (buffer : List ℕ) (p : Point calls)
+  -- and about what a Fetch of a role that may fetch answers at any point, a refused one too and one that brings in; one that does not leaves the area as it was
+  pub fetches : (role : ℕ) (buffer : List ℕ) (p : Point calls) → mayFetch role ≡ true
       → (let h = after g (p .before) in
       let s = stateAfter i l g (p .before) in
-      let c = fetch i buffer its in
+      let c = fetch role i buffer its in
       let a = answer h c in
       (a ≡ fetchedAnswer s (engineFetch (jobAt (h .desk) i) buffer its) (a .words)) × (loads h c ≡ false → a .words ≡ s .workspace))
   -- so no Run, a refused one too, clamps a word
-  pub no-clamps : (request : ℕ) (lent : Lent) (p : Place (run i request lent) calls)
-      → (let a = answer (after g (p .before)) (run i request lent) in (a .clamps-r ≡ 0) × (a .clamps-q ≡ 0))
-  -- a Fetch is accepted exactly when all 120 turns were granted and its buffer has 2,049 bytes or more
-  pub fetch-accepted : (buffer : List ℕ) (p : Point calls)
-      → (let h = after g (p .before) in Accepted h (fetch i buffer its) ↔ ((rotationCount ≤ jobAt (h .desk) i .turn) × (resultBytes ≤ length buffer)))
+  pub no-clamps : (role request : ℕ) (lent : Lent) (p : Place (run role i request lent) calls)
+      → (let a = answer (after g (p .before)) (run role i request lent) in (a .clamps-r ≡ 0) × (a .clamps-q ≡ 0))
+  -- a Fetch is accepted exactly when its role may fetch, all 120 turns were granted and its buffer has 2,049 bytes or more
+  pub fetch-accepted : (role : ℕ) (buffer : List ℕ) (p : Point calls)
+      → (let h = after g (p .before) in Accepted h (fetch role i buffer its) ↔ ((mayFetch role ≡ true) × (rotationCount ≤ jobAt (h .desk) i .turn) × (resultBytes ≤ length buffer)))
   -- and then writes the record of the area's R and Q
-  pub written : (buffer : List ℕ) (p : Point calls)
+  pub written : (role : ℕ) (buffer : List ℕ) (p : Point calls)
       → (let h = after g (p .before) in
-      Accepted h (fetch i buffer its) → answer h (fetch i buffer its) .buffer ≡ resultRecord (R (h .area i)) (Q (h .area i)) ++ drop resultBytes buffer)
+      Accepted h (fetch role i buffer its) → answer h (fetch role i buffer its) .buffer ≡ resultRecord (R (h .area i)) (Q (h .area i)) ++ drop resultBytes buffer)
   -- which are a factorization of the matrix that the sector was loaded with, from the moment on when all 120 turns were granted
   pub factored : (p : Point calls)
       → (let h = after g (p .before) in

@@ -9,42 +9,43 @@ use Rattle.schedule.specs.Schedule.{rotationCount}
 use Rattle.result_record.specs.ResultRecord.{resultBytes}
 use Rattle.accuracy.specs.Demand3.{Load}
 use Rattle.desk.specs.Desk.{sectorCount, roundTurns, jobAt}
+use Rattle.desk.specs.Roles.{operator}
 use Rattle.desk_laws.specs.Calls.{its, Call, handIn, run, fetch, heard, begin, setShares, Hub, new, after, Accepted, other, kind, Loads, EachNoLoad, EachLentIts}
 use Rattle.desk_laws.specs.Sectors.{LoadedBy}
 use Rattle.desk_laws.specs.Finish.{EachUndisturbed, inRounds, EachRequests, roundedUp}
 
--- ---- a sector is given a share and a matrix is handed in; then, in each of some rounds, others do what they like, and it requests its share
+-- ---- the operator gives a sector a share and hands in a matrix; then, in each of some rounds, others do what they like, and the operator requests the share
 
 -- s for the sector, and none for the others
 abbrev pub onlyFor : ℕ → ℕ → List ℕ
 onlyFor i s = set (replicate sectorCount 0) i s
 
 abbrev pub giving : ℕ → ℕ → Call
-giving i s = setShares (onlyFor i s) (length-set (replicate sectorCount 0) i s)
+giving i s = setShares operator (onlyFor i s) (length-set (replicate sectorCount 0) i s)
 
 abbrev pub requesting : ℕ → ℕ → List Call → ℕ → List (List Call)
-requesting i s others m = replicate m (others ++ run i s its ∷ [])
+requesting i s others m = replicate m (others ++ run operator i s its ∷ [])
 
 -- the hub after the hand-in, and after m rounds
 abbrev pub loadedHub : ℕ → ℕ → (ℕ → List ℤ) → Load → Hub
-loadedHub i s areas l = after (new areas) (giving i s ∷ handIn i (l .bytes) its ∷ [])
+loadedHub i s areas l = after (new areas) (giving i s ∷ handIn operator i (l .bytes) its ∷ [])
 
 abbrev pub servedHub : ℕ → ℕ → (ℕ → List ℤ) → Load → List Call → ℕ → Hub
 servedHub i s areas l others m = after (loadedHub i s areas l) (inRounds (requesting i s others m))
 
 pub record Served (i s : ℕ) (areas : ℕ → List ℤ) (l : Load) (others : List Call) (m : ℕ) (buffer : List ℕ) : Type 0 where
   -- the premises of `FinishesInTime`
-  pub loaded : Loads i (after (new areas) (giving i s ∷ [])) (handIn i (l .bytes) its)
+  pub loaded : Loads i (after (new areas) (giving i s ∷ [])) (handIn operator i (l .bytes) its)
   pub undisturbed : EachUndisturbed i s (loadedHub i s areas l) (inRounds (requesting i s others m))
   pub requests : EachRequests i s (loadedHub i s areas l) (requesting i s others m)
   -- those of `AsAlone` and `SectorDemand3`
-  pub loaded-by : LoadedBy i areas (giving i s ∷ []) (handIn i (l .bytes) its) l
-  pub lent : EachLentIts i (new areas) (giving i s ∷ handIn i (l .bytes) its ∷ inRounds (requesting i s others m) ++ fetch i buffer its ∷ [])
-  pub not-loaded : EachNoLoad i (loadedHub i s areas l) (inRounds (requesting i s others m) ++ fetch i buffer its ∷ [])
+  pub loaded-by : LoadedBy i areas (giving i s ∷ []) (handIn operator i (l .bytes) its) l
+  pub lent : EachLentIts i (new areas) (giving i s ∷ handIn operator i (l .bytes) its ∷ inRounds (requesting i s others m) ++ fetch operator i buffer its ∷ [])
+  pub not-loaded : EachNoLoad i (loadedHub i s areas l) (inRounds (requesting i s others m) ++ fetch operator i buffer its ∷ [])
   -- each round grants the share, as long as the job has so much left
   pub turn : jobAt (servedHub i s areas l others m .desk) i .turn ≡ min (m * s) rotationCount
   -- and once it is finished, its result is fetched
-  pub accepted : rotationCount ≤ m * s → Accepted (servedHub i s areas l others m) (fetch i buffer its)
+  pub accepted : rotationCount ≤ m * s → Accepted (servedHub i s areas l others m) (fetch operator i buffer its)
 
 abbrev pub ServedInRounds : Type 0
 ServedInRounds = (i s : ℕ) (areas : ℕ → List ℤ) (l : Load) (others : List Call) (m : ℕ) (buffer : List ℕ) → i < sectorCount → 0 < s → s ≤ roundTurns → l .lent ≡ areas i
@@ -62,7 +63,7 @@ NoRoundFewer = (i : ℕ) (areas : ℕ → List ℤ) (l : Load) (others : List Ca
 
 -- ---- a sector whose only hand-in is refused, and that makes each other call of its own
 abbrev pub unserved : ℕ → ℕ → List ℕ → List Call
-unserved i request buffer = handIn i [] its ∷ run i request its ∷ begin ∷ fetch i buffer its ∷ heard i ∷ []
+unserved i request buffer = handIn operator i [] its ∷ run operator i request its ∷ begin operator ∷ fetch operator i buffer its ∷ heard operator i ∷ []
 
 abbrev pub UnservedPossible : Type 0
 UnservedPossible = (i request : ℕ) (areas : ℕ → List ℤ) (buffer : List ℕ) → i < sectorCount → EachNoLoad i (new areas) (unserved i request buffer)

@@ -54,7 +54,7 @@ pub extern "C" fn hubqr_whole(bytes: &[u8], area: &mut [i32], buffer: &mut [u8])
 // The version of this archive, 10,000 times the major, 100 times the minor and the patch number.
 #[no_mangle]
 pub extern "C" fn hubqr_version() -> u32
-    ensures { λ r. ⌜ r ≡ 1000 ⌝ }
+    ensures { λ r. ⌜ r ≡ 1100 ⌝ }
 {
-    1000
+    1100
 }

@@ -19,6 +19,11 @@ pub first-alone : (n : ℕ) → first n 0 ≡ n
 first-alone zero = refl
 first-alone (suc n) = refl
 
+-- of three tests in sequence any two may be taken together
+pub first-pairs : (a b c : ℕ) → first a (first b c) ≡ first (first a b) c
+first-pairs zero b c = refl
+first-pairs (suc n) b c = refl
+
 -- where the first is 0, both are
 pub first-none : (n rest : ℕ) → first n rest ≡ 0 → (n ≡ 0) × (rest ≡ 0)
 first-none zero rest h = (refl, h)

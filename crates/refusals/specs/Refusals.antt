@@ -65,6 +65,10 @@ countUsedUp = 13
 abbrev pub sharesExceedRound : ℕ
 sharesExceedRound = 14
 
+-- not allowed to this role (document 02, U12)
+abbrev pub notAllowed : ℕ
+notAllowed = 15
+
 -- ---- tests in sequence
 
 -- the first of two numbers that is not 0

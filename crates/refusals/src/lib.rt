@@ -31,6 +31,8 @@ pub const COUNT_USED_UP: u8 = 13;
 
 pub const SHARES_EXCEED_ROUND: u8 = 14;
 
+pub const NOT_ALLOWED: u8 = 15;
+
 // Tests 1 and 2 of a record that has this tag and this length: the number of the first that fails, 0 for none.
 pub fn header_refusal(bytes: &[u8], tag: u8, size: usize) -> u8
     ensures { λ r. ⌜ r ≡ headerTest tag size (now (bytes .entry)) ⌝ }

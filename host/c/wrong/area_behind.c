@@ -11,5 +11,5 @@ static int32_t areas[HUBQR_SECTORS][HUBQR_AREA_WORDS];
 
 uint8_t heard(struct hubqr_desk *desk, const uint8_t *record)
 {
-    return hubqr_desk_hand_in_at(desk, 7, record, HUBQR_MATRIX_RECORD_BYTES, AREA, HUBQR_AREA_WORDS).heard;
+    return hubqr_desk_hand_in_at(HUBQR_OPERATOR, desk, 7, record, HUBQR_MATRIX_RECORD_BYTES, AREA, HUBQR_AREA_WORDS).heard;
 }

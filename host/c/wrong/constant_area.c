@@ -9,5 +9,5 @@
 
 uint8_t finish(struct hubqr_desk *desk, AREA *area, uint8_t *buffer)
 {
-    return hubqr_desk_fetch_at(desk, 3, area, HUBQR_AREA_WORDS, buffer, HUBQR_RESULT_RECORD_BYTES);
+    return hubqr_desk_fetch_at(HUBQR_OPERATOR, desk, 3, area, HUBQR_AREA_WORDS, buffer, HUBQR_RESULT_RECORD_BYTES);
 }

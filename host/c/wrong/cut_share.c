@@ -10,5 +10,5 @@
 uint8_t share_out(struct hubqr_desk *desk)
 {
     struct hubqr_shares shares = {{SHARE}};
-    return hubqr_desk_set_shares_at(desk, shares);
+    return hubqr_desk_set_shares_at(HUBQR_OPERATOR, desk, shares);
 }

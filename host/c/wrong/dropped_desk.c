@@ -8,5 +8,5 @@ void work(struct hubqr_desk desk, int32_t *area)
 #ifdef RIGHT
     ran =
 #endif
-        hubqr_desk_run(desk, 3, 15, area, HUBQR_AREA_WORDS);
+        hubqr_desk_run(HUBQR_OPERATOR, desk, 3, 15, area, HUBQR_AREA_WORDS);
 }

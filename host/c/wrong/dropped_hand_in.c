@@ -8,5 +8,5 @@ void hear(struct hubqr_desk *desk, const uint8_t *record, int32_t *area)
 #ifdef RIGHT
     handed_in =
 #endif
-        hubqr_desk_hand_in_at(desk, 3, record, HUBQR_MATRIX_RECORD_BYTES, area, HUBQR_AREA_WORDS);
+        hubqr_desk_hand_in_at(HUBQR_OPERATOR, desk, 3, record, HUBQR_MATRIX_RECORD_BYTES, area, HUBQR_AREA_WORDS);
 }

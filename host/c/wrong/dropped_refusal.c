@@ -8,5 +8,5 @@ void share_out(struct hubqr_desk *desk, struct hubqr_shares shares)
 #ifdef RIGHT
     number =
 #endif
-        hubqr_desk_set_shares_at(desk, shares);
+        hubqr_desk_set_shares_at(HUBQR_OPERATOR, desk, shares);
 }

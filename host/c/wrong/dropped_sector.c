@@ -8,5 +8,5 @@ void finish(struct hubqr_desk *desk, int32_t *area, uint8_t *buffer)
 #ifdef RIGHT
     number =
 #endif
-        hubqr_desk_fetch_at(desk, 3, area, HUBQR_AREA_WORDS, buffer, HUBQR_RESULT_RECORD_BYTES);
+        hubqr_desk_fetch_at(HUBQR_OPERATOR, desk, 3, area, HUBQR_AREA_WORDS, buffer, HUBQR_RESULT_RECORD_BYTES);
 }

@@ -8,5 +8,5 @@ void share_out(struct hubqr_desk desk, struct hubqr_shares shares)
 #ifdef RIGHT
     shared =
 #endif
-        hubqr_desk_set_shares(desk, shares);
+        hubqr_desk_set_shares(HUBQR_OPERATOR, desk, shares);
 }

@@ -11,5 +11,5 @@ struct hubqr_desk desk;
 
 uint8_t begin(void)
 {
-    return hubqr_desk_begin_at(DESK);
+    return hubqr_desk_begin_at(HUBQR_OPERATOR, DESK);
 }

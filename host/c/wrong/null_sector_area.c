@@ -9,5 +9,5 @@
 
 uint8_t work(struct hubqr_desk desk)
 {
-    return hubqr_desk_run(desk, 3, 15, NULL, LENGTH).number;
+    return hubqr_desk_run(HUBQR_OPERATOR, desk, 3, 15, NULL, LENGTH).number;
 }

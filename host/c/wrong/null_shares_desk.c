@@ -11,5 +11,5 @@ struct hubqr_desk desk;
 
 uint8_t share_out(struct hubqr_shares shares)
 {
-    return hubqr_desk_set_shares_at(DESK, shares);
+    return hubqr_desk_set_shares_at(HUBQR_OPERATOR, DESK, shares);
 }

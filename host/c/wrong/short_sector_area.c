@@ -11,5 +11,5 @@ static int32_t area[WORDS];
 
 uint8_t finish(struct hubqr_desk desk, uint8_t *buffer)
 {
-    return hubqr_desk_fetch(desk, 3, area, HUBQR_AREA_WORDS, buffer, HUBQR_RESULT_RECORD_BYTES).number;
+    return hubqr_desk_fetch(HUBQR_OPERATOR, desk, 3, area, HUBQR_AREA_WORDS, buffer, HUBQR_RESULT_RECORD_BYTES).number;
 }

@@ -11,5 +11,5 @@ static uint8_t buffer[BYTES];
 
 uint8_t finish(struct hubqr_desk *desk, int32_t *area)
 {
-    return hubqr_desk_fetch_at(desk, 3, area, HUBQR_AREA_WORDS, buffer, HUBQR_RESULT_RECORD_BYTES);
+    return hubqr_desk_fetch_at(HUBQR_OPERATOR, desk, 3, area, HUBQR_AREA_WORDS, buffer, HUBQR_RESULT_RECORD_BYTES);
 }

@@ -11,5 +11,5 @@ static uint8_t record[BYTES];
 
 uint8_t heard(struct hubqr_desk desk, int32_t *area)
 {
-    return hubqr_desk_hand_in(desk, 3, record, HUBQR_MATRIX_RECORD_BYTES, area, HUBQR_AREA_WORDS).heard;
+    return hubqr_desk_hand_in(HUBQR_OPERATOR, desk, 3, record, HUBQR_MATRIX_RECORD_BYTES, area, HUBQR_AREA_WORDS).heard;
 }

@@ -4,7 +4,8 @@
 //!
 //! A pointer may be null only where its length is 0, and the record, the area and the buffer of a
 //! call may not overlap. In every reply `number` is 0 for an accepted call, and the refusal's number
-//! otherwise.
+//! otherwise. A `role` is the number of a [`Role`](crate::Role): any other number is refused with 15,
+//! by every call that takes one.
 
 /// How far the work on an area is. The caller keeps it beside the area and hands it to the next call.
 #[repr(C)]
@@ -129,7 +130,7 @@ pub struct WeightsReply {
 
 /// How far the work for the eight sectors of a hub is, their shares, what each has left in the round,
 /// and the matrices that wait: 2,168 plain bytes that the caller keeps from call to call. Its methods
-/// are the calls.
+/// are the calls. It is the host's alone, since it holds what a viewer or a fitter is not answered.
 ///
 /// Each call needs the desk that the last one left. An older desk, such as a clone that was kept, is
 /// not noticed: its counts grant turns a second time, its jobs no longer fit their areas, and a matrix
@@ -286,14 +287,15 @@ extern "C" {
     pub fn hubqr_desk_new() -> Desk;
 
     /// Begins a round: each sector's count is refilled from its share.
-    pub fn hubqr_desk_begin(desk: Desk) -> DeskReply;
+    pub fn hubqr_desk_begin(role: u32, desk: Desk) -> DeskReply;
 
     /// Sets the shares of all sectors, which count from the next round on.
-    pub fn hubqr_desk_set_shares(desk: Desk, shares: Shares) -> DeskReply;
+    pub fn hubqr_desk_set_shares(role: u32, desk: Desk, shares: Shares) -> DeskReply;
 
     /// Hands in a sector's matrix: it is loaded, or waits in the desk if the sector's job is unfinished or
     /// one waits already.
     pub fn hubqr_desk_hand_in(
+        role: u32,
         desk: Desk,
         sector: u32,
         record: *const u8,
@@ -305,6 +307,7 @@ extern "C" {
     /// Goes on by the smallest of `request`, what the sector has left in the round and what its job has
     /// left.
     pub fn hubqr_desk_run(
+        role: u32,
         desk: Desk,
         sector: u32,
         request: u16,
@@ -312,9 +315,10 @@ extern "C" {
         area_len: usize,
     ) -> DeskRunReply;
 
-    /// Writes the result record of a sector's finished area, and then loads the matrix that waits, if one
-    /// does.
+    /// Writes the result record of a sector's finished area, and then, for the operator, loads the matrix
+    /// that waits, if one does.
     pub fn hubqr_desk_fetch(
+        role: u32,
         desk: Desk,
         sector: u32,
         area: *mut i32,
@@ -324,5 +328,5 @@ extern "C" {
     ) -> DeskReply;
 
     /// Answers a sector's heard byte.
-    pub fn hubqr_desk_heard(desk: Desk, sector: u32) -> DeskHeardReply;
+    pub fn hubqr_desk_heard(role: u32, desk: Desk, sector: u32) -> DeskHeardReply;
 }

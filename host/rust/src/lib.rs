@@ -54,7 +54,9 @@
 //! result that was not fetched, with none waiting, it is loaded at once, and that result is lost.
 //! [`Desk`] holds the jobs, the heard bytes, the shares, what each sector has left in the round and the
 //! matrices that wait; its methods are the calls; all but `new`, `begin` and `set_shares` are for one
-//! sector.
+//! sector. All but `new` are made for a **role**: a **viewer** gets the heard bytes and nothing else, a
+//! **fitter** the result records too, and the **operator** may make every call. [`Role`] says which
+//! call is allowed to whom.
 //!
 //! Areas and buffers may be longer than needed: what lies behind is not touched. A refused call
 //! changes nothing that it was lent.
@@ -112,24 +114,26 @@
 //! # For several sectors
 //!
 //! ```
+//! use hubqr::Role::{Operator, Viewer};
 //! # let records = [[1; hubqr::MATRIX_RECORD_BYTES]; 2];
+//!
 //! let mut areas = [[0; hubqr::AREA_WORDS]; 2];
 //! let mut desk = hubqr::Desk::new();
-//! desk.set_shares([80, 40, 0, 0, 0, 0, 0, 0])?; // two sectors, and one is busy
+//! desk.set_shares(Operator, [80, 40, 0, 0, 0, 0, 0, 0])?; // two sectors, and one is busy
 //! for (sector, area) in (0..).zip(&mut areas) {
-//!     desk.hand_in(sector, &records[sector as usize], area)?;
+//!     desk.hand_in(Operator, sector, &records[sector as usize], area)?;
 //! }
 //! while desk.jobs.iter().any(|job| !job.is_finished()) {
-//!     desk.begin()?; // each sector has the turns of its share
+//!     desk.begin(Operator)?; // each sector has the turns of its share
 //!     for (sector, area) in (0..).zip(&mut areas) {
-//!         desk.run(sector, desk.shares[sector as usize], area)?;
+//!         desk.run(Operator, sector, desk.shares[sector as usize], area)?;
 //!         // other work goes here
 //!     }
 //! }
 //! let mut result = [0; hubqr::RESULT_RECORD_BYTES];
 //! for (sector, area) in (0..).zip(&mut areas) {
-//!     desk.fetch(sector, area, &mut result)?; // would bring in a matrix that waits
-//!     assert_eq!(desk.heard(sector)?, 0xff);
+//!     desk.fetch(Operator, sector, area, &mut result)?; // would bring in a matrix that waits
+//!     assert_eq!(desk.heard(Viewer, sector)?, 0xff);
 //! }
 //! # Ok::<(), hubqr::Refusal>(())
 //! ```
@@ -146,6 +150,8 @@ mod desk;
 pub mod ffi;
 mod refusal;
 #[cfg(feature = "archive")]
+mod role;
+#[cfg(feature = "archive")]
 mod weights;
 
 #[cfg(feature = "archive")]
@@ -159,6 +165,8 @@ pub use desk::HandedIn;
 #[cfg(feature = "archive")]
 pub use ffi::{Desk, Job, Sample, Weight};
 pub use refusal::{Refusal, UnknownNumber};
+#[cfg(feature = "archive")]
+pub use role::Role;
 #[cfg(feature = "archive")]
 pub use weights::weights;
 

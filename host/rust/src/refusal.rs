@@ -61,6 +61,7 @@ refusals! {
     CountUsedUp = 13, "turns are requested for an unfinished job, \
                        and the sector has none left in the round";
     SharesExceedRound = 14, "the shares are above 120 in total";
+    NotAllowed = 15, "the call is not allowed to this role";
 }
 
 impl Refusal {

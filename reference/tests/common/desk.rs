@@ -1,6 +1,7 @@
 //! The calls of the desk, made on the engine and on the reference.
 
 mod call;
+pub mod role;
 mod seen;
 mod source;
 
@@ -16,6 +17,7 @@ use reference::records::RESULT_RECORD;
 use super::twin::Twin;
 use super::worked::Loaded;
 use super::{engine, Case, SPARE};
+use role::OPERATOR;
 use source::{Fetched, Source, Sources};
 
 /// An area, which belongs to one sector or is lent to several.
@@ -26,8 +28,8 @@ struct Area {
 }
 
 /// Whether a call writes to the area that it is lent: it fills it, or makes turns.
-fn writes(desk: &Desk, call: &Call, reply: &DeskReply) -> bool {
-    reply.number == 0 && (reply.count > 0 || call.loads(desk).is_some())
+fn writes(role: u32, desk: &Desk, call: &Call, reply: &DeskReply) -> bool {
+    reply.number == 0 && (reply.count > 0 || call.loads(role, desk).is_some())
 }
 
 /// What an accepted hand-in or Fetch makes of a seat.
@@ -60,8 +62,8 @@ pub struct BothDesk<'a> {
     buffer: Twin<u8>,
     /// What the jobs of the desk were loaded from.
     sources: Sources,
-    /// The last call, and the desk that it was handed.
-    last: Option<(Desk, Call, Lent)>,
+    /// The last call, with the role and the desk that it was handed.
+    last: Option<(u32, Desk, Call, Lent)>,
     seen: &'a mut Seen,
 }
 
@@ -118,7 +120,17 @@ impl<'a> BothDesk<'a> {
 
     /// The first 2,049 bytes of the engine's buffer.
     pub fn fetched(&self) -> &[u8] {
-        &self.buffer.contents()[..RESULT_RECORD]
+        &self.bytes()[..RESULT_RECORD]
+    }
+
+    /// All bytes of the engine's buffer, lent or not.
+    pub fn bytes(&self) -> &[u8] {
+        self.buffer.contents()
+    }
+
+    /// Leaves no result in the buffer, so that the next one is seen to be written.
+    pub fn spoil_buffer(&mut self) {
+        self.buffer.fill(&[0xa5; RESULT_RECORD]);
     }
 
     /// Fails the test unless the result that was fetched last is what the engine's Whole makes of a
@@ -129,11 +141,11 @@ impl<'a> BothDesk<'a> {
     }
 
     /// Makes a call with the desk that was answered last, and keeps the one that it answers.
-    pub fn call(&mut self, call: &Call, lent: Lent) -> DeskReply {
+    pub fn call(&mut self, role: u32, call: &Call, lent: Lent) -> DeskReply {
         let desk = self.desk;
-        let reply = self.make(&desk, call, lent);
+        let reply = self.make(role, &desk, call, lent);
         match (reply.number, call.sector()) {
-            (0, Some(sector)) => self.follow_source(sector as usize, call, lent.area, &reply),
+            (0, Some(sector)) => self.follow_source(role, sector as usize, call, lent.area, &reply),
             (8, Some(sector)) => {
                 let in_step = self.sources.is_in_step(sector as usize, lent.area);
                 self.require(!in_step, "a result in step was refused");
@@ -145,75 +157,88 @@ impl<'a> BothDesk<'a> {
     }
 
     /// Makes a call with any desk, and keeps the one that was there.
-    pub fn call_handed(&mut self, desk: &Desk, call: &Call, lent: Lent) -> DeskReply {
-        let reply = self.make(desk, call, lent);
-        if writes(desk, call, &reply) {
+    pub fn call_handed(&mut self, role: u32, desk: &Desk, call: &Call, lent: Lent) -> DeskReply {
+        let reply = self.make(role, desk, call, lent);
+        if writes(role, desk, call, &reply) {
             self.sources.write(None, lent.area);
         }
         reply
     }
 
-    fn make(&mut self, desk: &Desk, call: &Call, lent: Lent) -> DeskReply {
-        self.last = Some((*desk, call.clone(), lent));
+    fn make(&mut self, role: u32, desk: &Desk, call: &Call, lent: Lent) -> DeskReply {
+        self.last = Some((role, *desk, call.clone(), lent));
         self.areas[lent.area].words.lend(lent.words);
         self.buffer.lend(lent.bytes);
-        let before = (self.words(lent.area).to_vec(), self.fetched().to_vec());
-        let reply = self.on_the_engine(desk, call, lent);
-        let reference = self.on_the_reference(desk, call, lent);
+        let before = (self.words(lent.area).to_vec(), self.bytes().to_vec());
+        let reply = self.on_the_engine(role, desk, call, lent);
+        let reference = self.on_the_reference(role, desk, call, lent);
         self.compare(reply, reference);
-        if !writes(desk, call, &reply) {
+        self.require_role(role, desk, call, &reply);
+        if !writes(role, desk, call, &reply) {
             let same = self.words(lent.area) == before.0;
             self.require(same, "a call changed an area that it was only lent");
         }
         if reply.number == 0 {
-            self.follow(desk, call, lent, &reply);
+            self.follow(role, desk, call, lent, &reply);
         } else {
-            self.require(self.fetched() == before.1, "a refused call wrote a result");
+            self.require(self.bytes() == before.1, "a refused call wrote a result");
             let nothing_else = DeskReply {
                 number: reply.number,
                 ..DeskReply::from(*desk)
             };
             self.require(reply == nothing_else, "a refused call answered more");
         }
-        self.seen.count(desk, call, &reply);
+        self.seen.count(role, desk, call, &reply);
         reply
     }
 
-    fn on_the_engine(&mut self, desk: &Desk, call: &Call, lent: Lent) -> DeskReply {
+    fn on_the_engine(&mut self, role: u32, desk: &Desk, call: &Call, lent: Lent) -> DeskReply {
         let (area, buffer) = (&mut self.areas[lent.area].words, &mut self.buffer);
         match call {
-            Call::Begin => engine::desk_begin(desk),
-            Call::SetShares { shares } => engine::desk_set_shares(desk, *shares),
+            Call::Begin => engine::desk_begin(role, desk),
+            Call::SetShares { shares } => engine::desk_set_shares(role, desk, *shares),
             Call::HandIn { sector, record } => {
                 let mut handed = record.clone();
-                let reply = engine::desk_hand_in(desk, *sector, &mut handed, area.engine());
+                let reply = engine::desk_hand_in(role, desk, *sector, &mut handed, area.engine());
                 self.require(handed == *record, "a hand-in changed the record");
                 reply
             }
             Call::Run { sector, request } => {
-                engine::desk_run(desk, *sector, *request, area.engine())
+                engine::desk_run(role, desk, *sector, *request, area.engine())
             }
             Call::Fetch { sector } => {
-                engine::desk_fetch(desk, *sector, area.engine(), buffer.engine())
+                engine::desk_fetch(role, desk, *sector, area.engine(), buffer.engine())
             }
-            Call::Heard { sector } => engine::desk_heard(desk, *sector),
+            Call::Heard { sector } => engine::desk_heard(role, desk, *sector),
         }
     }
 
-    fn on_the_reference(&mut self, desk: &Desk, call: &Call, lent: Lent) -> DeskReply {
+    fn on_the_reference(&mut self, role: u32, desk: &Desk, call: &Call, lent: Lent) -> DeskReply {
         let (area, buffer) = (&mut self.areas[lent.area].words, &mut self.buffer);
         match call {
-            Call::Begin => desk::begin(desk),
-            Call::SetShares { shares } => desk::set_shares(desk, shares),
+            Call::Begin => desk::begin(role, desk),
+            Call::SetShares { shares } => desk::set_shares(role, desk, shares),
             Call::HandIn { sector, record } => {
-                desk::hand_in(desk, *sector, record, area.reference())
+                desk::hand_in(role, desk, *sector, record, area.reference())
             }
-            Call::Run { sector, request } => desk::run(desk, *sector, *request, area.reference()),
+            Call::Run { sector, request } => {
+                desk::run(role, desk, *sector, *request, area.reference())
+            }
             Call::Fetch { sector } => {
-                desk::fetch(desk, *sector, area.reference(), buffer.reference())
+                desk::fetch(role, desk, *sector, area.reference(), buffer.reference())
             }
-            Call::Heard { sector } => desk::heard(desk, *sector),
+            Call::Heard { sector } => desk::heard(role, desk, *sector),
         }
+    }
+
+    /// 15 is for those who may not make the call, and for nobody else. No call changes the desk but the
+    /// operator's.
+    fn require_role(&self, role: u32, desk: &Desk, call: &Call, reply: &DeskReply) {
+        let refused = reply.number == 15;
+        let due = refused != call.is_allowed_to(role);
+        self.require(due, "15 is for those who may not make the call");
+        let kept = role == OPERATOR || reply.desk == *desk;
+        self.require(kept, "another than the operator changed the desk");
     }
 
     fn compare(&self, engine: DeskReply, reference: DeskReply) {
@@ -232,8 +257,8 @@ impl<'a> BothDesk<'a> {
     }
 
     /// What holds of an accepted call: which seats of the desk it changes, and how.
-    fn follow(&mut self, handed: &Desk, call: &Call, lent: Lent, reply: &DeskReply) {
-        let (mut due, loads) = (*handed, call.loads(handed));
+    fn follow(&mut self, role: u32, handed: &Desk, call: &Call, lent: Lent, reply: &DeskReply) {
+        let (mut due, loads) = (*handed, call.loads(role, handed));
         match call {
             Call::Begin => due.seats.iter_mut().for_each(|seat| seat.left = seat.share),
             Call::SetShares { shares } => {
@@ -266,7 +291,14 @@ impl<'a> BothDesk<'a> {
 
     /// Holds what a sector fetches to the matrix that its job was loaded from, and keeps account of
     /// what loads it and of who writes where. The desk is still the one that the call was handed.
-    fn follow_source(&mut self, sector: usize, call: &Call, area: usize, reply: &DeskReply) {
+    fn follow_source(
+        &mut self,
+        role: u32,
+        sector: usize,
+        call: &Call,
+        area: usize,
+        reply: &DeskReply,
+    ) {
         let fetches = matches!(call, Call::Fetch { .. });
         let bytes = &self.buffer.contents()[..RESULT_RECORD];
         let fetched = fetches.then(|| self.sources.fetch(sector, area, bytes));
@@ -275,15 +307,15 @@ impl<'a> BothDesk<'a> {
                 let result = source::work_area(bytes);
                 let errors = matrix.require_worked(&result, || self.named());
                 self.seen.worst = self.seen.worst.max(errors);
-                self.seen.matrices.count_fetched(fetched);
+                self.seen.matrices.count_fetched(role, fetched);
             }
             Some(Err(otherwise)) => self.require(false, otherwise),
             None => {}
         }
-        if writes(&self.desk, call, reply) {
+        if writes(role, &self.desk, call, reply) {
             self.sources.write(Some(sector), area);
         }
-        if let Some(record) = call.loads(&self.desk) {
+        if let Some(record) = call.loads(role, &self.desk) {
             let source = Source::new(&record, area, fetches);
             self.sources.load(sector, source);
         }
@@ -323,7 +355,10 @@ impl<'a> BothDesk<'a> {
 
     fn named(&self) -> String {
         match &self.last {
-            Some((desk, call, lent)) => format!("{}\n{call}, {lent:?}, {desk:?}", self.case),
+            Some((role, desk, call, lent)) => {
+                let by = format!("by role {role}, {lent:?}, {desk:?}");
+                format!("{}\n{call} {by}", self.case)
+            }
             None => self.case.to_string(),
         }
     }

@@ -166,26 +166,33 @@ pub fn desk_new() -> Desk {
     answered_desk(unsafe { ffi::hubqr_desk_new() })
 }
 
-pub fn desk_begin(desk: &Desk) -> DeskReply {
-    let reply = unsafe { ffi::hubqr_desk_begin(handed_desk(desk)) };
+pub fn desk_begin(role: u32, desk: &Desk) -> DeskReply {
+    let reply = unsafe { ffi::hubqr_desk_begin(role, handed_desk(desk)) };
     DeskReply {
         number: reply.number,
         ..DeskReply::from(answered_desk(reply.desk))
     }
 }
 
-pub fn desk_set_shares(desk: &Desk, shares: [u16; SECTORS]) -> DeskReply {
+pub fn desk_set_shares(role: u32, desk: &Desk, shares: [u16; SECTORS]) -> DeskReply {
     let shares = ffi::Shares { shares };
-    let reply = unsafe { ffi::hubqr_desk_set_shares(handed_desk(desk), shares) };
+    let reply = unsafe { ffi::hubqr_desk_set_shares(role, handed_desk(desk), shares) };
     DeskReply {
         number: reply.number,
         ..DeskReply::from(answered_desk(reply.desk))
     }
 }
 
-pub fn desk_hand_in(desk: &Desk, sector: u32, record: &mut [u8], area: &mut [i32]) -> DeskReply {
+pub fn desk_hand_in(
+    role: u32,
+    desk: &Desk,
+    sector: u32,
+    record: &mut [u8],
+    area: &mut [i32],
+) -> DeskReply {
     let reply = unsafe {
         ffi::hubqr_desk_hand_in(
+            role,
             handed_desk(desk),
             sector,
             record.as_mut_ptr(),
@@ -202,9 +209,10 @@ pub fn desk_hand_in(desk: &Desk, sector: u32, record: &mut [u8], area: &mut [i32
     }
 }
 
-pub fn desk_run(desk: &Desk, sector: u32, request: u16, area: &mut [i32]) -> DeskReply {
+pub fn desk_run(role: u32, desk: &Desk, sector: u32, request: u16, area: &mut [i32]) -> DeskReply {
     let (desk, words) = (handed_desk(desk), area.len());
-    let reply = unsafe { ffi::hubqr_desk_run(desk, sector, request, area.as_mut_ptr(), words) };
+    let area = area.as_mut_ptr();
+    let reply = unsafe { ffi::hubqr_desk_run(role, desk, sector, request, area, words) };
     DeskReply {
         number: reply.number,
         job: answered(reply.job),
@@ -217,9 +225,16 @@ pub fn desk_run(desk: &Desk, sector: u32, request: u16, area: &mut [i32]) -> Des
     }
 }
 
-pub fn desk_fetch(desk: &Desk, sector: u32, area: &mut [i32], buffer: &mut [u8]) -> DeskReply {
+pub fn desk_fetch(
+    role: u32,
+    desk: &Desk,
+    sector: u32,
+    area: &mut [i32],
+    buffer: &mut [u8],
+) -> DeskReply {
     let reply = unsafe {
         ffi::hubqr_desk_fetch(
+            role,
             handed_desk(desk),
             sector,
             area.as_mut_ptr(),
@@ -234,8 +249,8 @@ pub fn desk_fetch(desk: &Desk, sector: u32, area: &mut [i32], buffer: &mut [u8])
     }
 }
 
-pub fn desk_heard(desk: &Desk, sector: u32) -> DeskReply {
-    let reply = unsafe { ffi::hubqr_desk_heard(handed_desk(desk), sector) };
+pub fn desk_heard(role: u32, desk: &Desk, sector: u32) -> DeskReply {
+    let reply = unsafe { ffi::hubqr_desk_heard(role, handed_desk(desk), sector) };
     DeskReply {
         number: reply.number,
         heard: reply.heard,

@@ -4,7 +4,9 @@
 use hubqr::Job;
 use reference::desk::{DeskReply, SECTORS};
 
+use crate::common::desk::role::OPERATOR;
 use crate::common::desk::{BothDesk, Call};
+use crate::steps::Step;
 
 /// One sector's area and job, as they are when nobody else is there.
 #[derive(Clone)]
@@ -31,9 +33,10 @@ impl Alone {
         })
     }
 
-    /// Makes an accepted call of the sector without the desk.
-    pub fn make(&mut self, both: &BothDesk, call: &Call, reply: &DeskReply) {
-        match call {
+    /// Makes an accepted call of the sector without the desk. Only after the operator's Fetch is the
+    /// matrix loaded that came early.
+    pub fn make(&mut self, both: &BothDesk, step: &Step, reply: &DeskReply) {
+        match &step.call {
             Call::HandIn { record, .. } => {
                 if self.job.is_finished() && self.early.is_none() {
                     self.load(record);
@@ -58,7 +61,8 @@ impl Alone {
                 let fetched = hubqr::fetch(self.job, &self.area, &mut result);
                 let same = fetched.is_ok() && both.fetched() == result;
                 both.require(same, "alone, another result");
-                if let Some(record) = self.early.take() {
+                let early = self.early.take_if(|_| step.role == OPERATOR);
+                if let Some(record) = early {
                     self.load(&record);
                 }
             }

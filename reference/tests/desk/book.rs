@@ -37,13 +37,13 @@ impl Book {
     pub fn enter(&mut self, both: &BothDesk, handed: &Desk, step: &Step, reply: &DeskReply) {
         self.enter_round(both, &step.call, reply);
         if reply.number == 0 {
-            self.enter_matrices(both, handed, &step.call);
+            self.enter_matrices(both, handed, step);
         }
         self.require_matrices(both);
         let Some(alone) = &mut self.alone else { return };
         if let Some(alone) = step.call.sector().and_then(|s| alone.get_mut(s as usize)) {
             if reply.number == 0 {
-                alone.make(both, &step.call, reply);
+                alone.make(both, step, reply);
             }
             let wrong = reply.number == 8 && alone.is_worked();
             both.require(!wrong, "a worked matrix was refused");
@@ -55,7 +55,9 @@ impl Book {
     /// began. Neither the shares of all nor the turns granted to all are ever more than 120.
     fn enter_round(&mut self, both: &BothDesk, call: &Call, reply: &DeskReply) {
         match call {
-            Call::Begin => (self.begun, self.granted) = (self.set, [0; SECTORS]),
+            Call::Begin if reply.number == 0 => {
+                (self.begun, self.granted) = (self.set, [0; SECTORS]);
+            }
             Call::SetShares { shares } if reply.number == 0 => self.set = *shares,
             Call::Run { sector, .. } if reply.number == 0 => {
                 self.granted[*sector as usize] += reply.count;
@@ -74,13 +76,15 @@ impl Book {
     }
 
     /// An accepted call. Load accepts every record that is handed in, and so every one that waits.
-    fn enter_matrices(&mut self, both: &BothDesk, handed: &Desk, call: &Call) {
-        let Some(sector) = call.sector() else { return };
-        if let Call::HandIn { record, .. } = call {
+    fn enter_matrices(&mut self, both: &BothDesk, handed: &Desk, step: &Step) {
+        let Some(sector) = step.call.sector() else {
+            return;
+        };
+        if let Call::HandIn { record, .. } = &step.call {
             both.require(heard(record).is_some(), "a record that Load refuses");
             self.handed_in[sector as usize] = Some(record.clone());
         }
-        if let Some(heard) = call.loads(handed).and_then(|record| heard(&record)) {
+        if let Some(heard) = step.loads(handed).and_then(|record| heard(&record)) {
             self.heard[sector as usize] = heard;
         }
     }

@@ -230,13 +230,15 @@ pub struct OtherAnswers(Noticed<Rule, { Rule::ALL.len() }>);
 impl OtherAnswers {
     pub const NONE: OtherAnswers = OtherAnswers(Noticed::none(Rule::ALL));
 
-    /// Calls that are for no sector, or for one that no hub has, are not what these rules are about.
+    /// Calls that are for no sector, or for one that no hub has, or refused for their role are not what
+    /// these rules are about.
     pub fn look(&mut self, desk: &Desk, step: &Step, reply: &DeskReply) {
         let sector = step.call.sector().map(|sector| sector as usize);
+        let sector = sector.filter(|_| reply.number != 15);
         let Some(sector) = sector.filter(|sector| *sector < SECTORS) else {
             return;
         };
-        let loads = step.call.loads(desk).filter(|_| reply.number == 0);
+        let loads = step.loads(desk).filter(|_| reply.number == 0);
         let stated = Answer {
             number: reply.number,
             heard: reply.heard,

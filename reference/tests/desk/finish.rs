@@ -1,9 +1,12 @@
-//! The promise to a loaded sector: where it requests its share s in every round, it is finished
-//! within 120 divided by s rounds, rounded up. The load may be that of a hand-in or of a Fetch, and
-//! matrices that are handed in meanwhile wait.
+//! The promise to a loaded sector: where the operator requests its share s in every round, it is
+//! finished within 120 divided by s rounds, rounded up. The load may be that of a hand-in or of a
+//! Fetch, and matrices that are handed in meanwhile wait. Requests of others do nothing for it, and no
+//! round begins by theirs.
 
+use reference::job::Job;
 use reference::random::Random;
 
+use crate::common::desk::role::{FITTER, OPERATOR, UNKNOWN, VIEWER};
 use crate::common::desk::{BothDesk, Call, Lent, Seen};
 use crate::common::Case;
 use crate::shares::giving;
@@ -98,9 +101,13 @@ impl<'a> Sector<'a> {
         self.call(&Call::Fetch { sector }, &[0]);
     }
 
-    /// Makes a call that answers one of these numbers.
+    /// Makes a call of the operator that answers one of these numbers.
     fn call(&mut self, call: &Call, numbers: &[u8]) {
-        let number = self.both.call(call, Lent::area(self.sector)).number;
+        self.call_by(OPERATOR, call, numbers);
+    }
+
+    fn call_by(&mut self, role: u32, call: &Call, numbers: &[u8]) {
+        let number = self.both.call(role, call, Lent::area(self.sector)).number;
         let due = numbers.contains(&number);
         self.both.require(due, "another number");
     }
@@ -110,19 +117,33 @@ impl<'a> Sector<'a> {
         self.rounds += 1;
     }
 
-    /// Requests the share. Other requests may have used it up in this round.
-    fn request(&mut self) {
-        let run = Call::Run {
+    /// The request of the share.
+    fn run(&self) -> Call {
+        Call::Run {
             sector: self.sector as u32,
             request: self.share,
-        };
-        self.call(&run, &[0, 13]);
+        }
+    }
+
+    /// Requests the share. Other requests may have used it up in this round.
+    fn request(&mut self) {
+        self.call(&self.run(), &[0, 13]);
         self.finished |= self.turn() == 120;
+    }
+
+    /// Three others request the share and begin a round. Neither is allowed to them.
+    fn others_request(&mut self) {
+        let run = self.run();
+        let unknown = UNKNOWN[usize::from(self.rounds) % UNKNOWN.len()];
+        for role in [VIEWER, FITTER, unknown] {
+            self.call_by(role, &run, &[15]);
+            self.call_by(role, &Call::Begin, &[15]);
+        }
     }
 
     /// Other calls of the sector and of others, until it is finished. It keeps its share.
     fn do_anything(&mut self, random: &mut Random) {
-        for _ in 0..random.below(4) {
+        for _ in 0..random.below(5) {
             if !self.finished {
                 let step = Steps::OF_ALL.draw_within(self.sector, self.share, random);
                 step.make(&mut self.both);
@@ -150,8 +171,8 @@ impl<'a> Sector<'a> {
     }
 }
 
-/// With no other turns it takes all of these rounds: with a share of 7 the sector stands at turn
-/// 119 after 17 of them.
+/// With no other turns it takes all of these rounds, whatever others request: with a share of 7 the
+/// sector stands at turn 119 after 17 of them.
 #[test]
 fn a_sector_takes_as_many_rounds_as_its_share_needs() {
     let mut seen = Seen::default();
@@ -161,7 +182,9 @@ fn a_sector_takes_as_many_rounds_as_its_share_needs() {
         for _ in 0..sector.promised() {
             sector.both.require(sector.turn() < 120, "too early");
             sector.begin();
+            sector.others_request();
             sector.request();
+            sector.others_request();
             let stands = sector.turn() == sector.due();
             sector.both.require(stands, "another turn number");
         }
@@ -170,6 +193,45 @@ fn a_sector_takes_as_many_rounds_as_its_share_needs() {
     }
     seen.print("Rounds of every share");
     assert_eq!((seen.worked, seen.matrices.fetched_brought_in), (360, 120));
+}
+
+/// A sector for which nobody but others requests stands where it was loaded, with its share left, for
+/// twice as many rounds as it is promised to need.
+#[test]
+fn a_sector_for_which_only_others_request_does_not_move() {
+    let mut seen = Seen::default();
+    for (share, by) in (1..=120).flat_map(|share| [(share, By::HandIn), (share, By::Fetch)]) {
+        let case = Case::of_words("others request", 1173, share.into());
+        let mut sector = Sector::new(case, share, by, 0, &mut seen);
+        for _ in 0..2 * sector.promised() {
+            sector.begin();
+            sector.others_request();
+            let seat = sector.both.desk().seats[sector.sector];
+            let stands = (seat.job, seat.left) == (Job::new(0, 0), share);
+            sector.both.require(stands, "others made a sector move");
+        }
+    }
+    seen.print("Others request");
+    seen.assert_numbers(&[15]);
+}
+
+/// Where nobody but others begins rounds, a sector gets what it has left, and then 13.
+#[test]
+fn rounds_that_only_others_begin_give_no_turn() {
+    let mut seen = Seen::default();
+    for share in 1..120 {
+        let case = Case::of_words("others begin", 1174, share.into());
+        let mut sector = Sector::new(case, share, By::HandIn, 0, &mut seen);
+        sector.begin();
+        sector.request();
+        for _ in 0..4 {
+            sector.others_request();
+            sector.call(&sector.run(), &[13]);
+            sector.both.require(sector.turn() == share, "a turn more");
+        }
+    }
+    seen.print("Others begin");
+    seen.assert_numbers(&[13, 15]);
 }
 
 /// From any history on, and with any calls of anybody between.

@@ -1,5 +1,7 @@
-//! Histories of calls from a new desk on, each handed the desk that the last one answered.
+//! Histories of calls from a new desk on, by all roles and by such as are none, each handed the desk
+//! that the last one answered.
 
+use crate::allowed;
 use crate::book::Book;
 use crate::common::desk::{BothDesk, Seen};
 use crate::common::Case;
@@ -12,12 +14,13 @@ const OWN_AREAS: u64 = 5_000;
 const ANY_AREAS: u64 = 2_500;
 
 /// Every number that the calls can give.
-const NUMBERS: [u8; 11] = [1, 2, 3, 4, 5, 6, 7, 8, 12, 13, 14];
+const NUMBERS: [u8; 12] = [1, 2, 3, 4, 5, 6, 7, 8, 12, 13, 14, 15];
 
 /// How often other rules would have come to something else.
 struct Noticed {
     rules: OtherAnswers,
     early: early::OtherAnswers,
+    allowed: allowed::OtherAnswers,
 }
 
 /// Makes the calls of one history, and holds each to the laws and to the other rules.
@@ -26,13 +29,14 @@ fn make_history(case: Case, areas: Areas, seen: &mut Seen, noticed: &mut Noticed
     let steps = Steps::of_some(areas, &mut random);
     let mut both = BothDesk::new(case, seen);
     let mut book = Book::new(&both, areas);
-    let most = if steps.brisk { 90 } else { 50 };
-    let count = random.between(10, most) as usize;
+    let most = if steps.brisk { 125 } else { 70 };
+    let count = random.between(13, most) as usize;
     for step in steps.history(count, &mut random) {
         let handed = step.handed(both.desk());
         let reply = step.make(&mut both);
         noticed.rules.look(&handed, &step, &reply);
         noticed.early.look(&handed, &step, &reply);
+        noticed.allowed.look(&handed, &step, &reply);
         book.enter(&both, &handed, &step, &reply);
     }
 }
@@ -42,6 +46,7 @@ fn make_histories(test: &'static str, seed: u64, areas: Areas, histories: u64) -
     let mut noticed = Noticed {
         rules: OtherAnswers::NONE,
         early: early::OtherAnswers::NONE,
+        allowed: allowed::OtherAnswers::NONE,
     };
     for number in 0..histories {
         let case = Case::of_words(test, seed, number);
@@ -50,11 +55,14 @@ fn make_histories(test: &'static str, seed: u64, areas: Areas, histories: u64) -
     seen.print(&format!("{test}, {histories} of them"));
     noticed.rules.print_and_require_all_rules(test);
     noticed.early.print_and_require_all_rules(test);
+    noticed.allowed.print_and_require_all_rules(test);
     seen.assert_numbers(&NUMBERS);
     assert!(seen.worked > histories / 20, "few were worked to the end");
     let matrices = &seen.matrices;
     assert!(matrices.replaced > histories / 2, "few had to give way");
     assert!(matrices.brought_in > histories / 40, "few were brought in");
+    let left_waiting = matrices.left_waiting;
+    assert!(left_waiting > histories / 40, "few were left waiting");
     seen
 }
 
@@ -70,6 +78,8 @@ fn sectors_with_their_own_areas_are_as_if_alone() {
         "few results of those brought in"
     );
     assert!(matrices.fetched_again > OWN_AREAS / 30, "few fetched again");
+    let by_fitters = matrices.fetched_by_fitters;
+    assert!(by_fitters > OWN_AREAS / 8, "few fetched by fitters");
 }
 
 #[test]

@@ -1,11 +1,12 @@
-//! A hub that serves sectors with an area for each, from a new desk on.
+//! A hub that serves sectors with an area for each, from a new desk on. All calls are the operator's.
 
-use reference::desk::Seat;
+use reference::desk::{DeskReply, Seat};
 use reference::job::Job;
 use reference::matrix::{Complex, Matrix};
 use reference::random::Random;
 use reference::records::write_matrix;
 
+use crate::common::desk::role::OPERATOR;
 use crate::common::desk::{BothDesk, Call, Lent, Seen};
 use crate::common::Case;
 use crate::shares::Shares;
@@ -37,29 +38,31 @@ impl<'a> Hub<'a> {
     /// Hands in a matrix, which answers a job.
     fn hand_in(&mut self, sector: u32, record: Vec<u8>, job: Job) {
         let call = Call::HandIn { sector, record };
-        let reply = self.both.call(&call, Lent::area(sector as usize));
+        let reply = self.call(&call, sector as usize);
         assert_eq!((reply.number, reply.job), (0, job));
     }
 
     /// The number, and the turns granted.
     pub fn run(&mut self, sector: u32, request: u16) -> (u8, u32) {
         let call = Call::Run { sector, request };
-        let reply = self.both.call(&call, Lent::area(sector as usize));
+        let reply = self.call(&call, sector as usize);
         (reply.number, reply.count)
     }
 
     pub fn begin(&mut self) {
-        assert_eq!(self.both.call(&Call::Begin, Lent::area(0)).number, 0);
+        assert_eq!(self.call(&Call::Begin, 0).number, 0);
     }
 
     pub fn set_shares(&mut self, shares: Shares) -> u8 {
-        let call = Call::SetShares { shares };
-        self.both.call(&call, Lent::area(0)).number
+        self.call(&Call::SetShares { shares }, 0).number
     }
 
     pub fn fetch(&mut self, sector: u32) -> u8 {
-        let call = Call::Fetch { sector };
-        self.both.call(&call, Lent::area(sector as usize)).number
+        self.call(&Call::Fetch { sector }, sector as usize).number
+    }
+
+    fn call(&mut self, call: &Call, area: usize) -> DeskReply {
+        self.both.call(OPERATOR, call, Lent::area(area))
     }
 
     pub fn seat(&self, sector: usize) -> Seat {

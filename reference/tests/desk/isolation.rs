@@ -13,8 +13,8 @@ use crate::steps::{Areas, Step, Steps};
 /// Pairs of histories.
 const PAIRS: u64 = 1_500;
 
-/// What a sector knows of a history: a call of its own, a round that begins, or shares that are
-/// accepted, with what it came to.
+/// What a sector knows of a history: a call of its own, by any role, a round that begins, or shares
+/// that are accepted, with what it came to.
 struct Event {
     step: Step,
     answer: Answer,
@@ -51,11 +51,10 @@ impl Answer {
 /// Makes a random history and answers what one sector knows of it.
 fn first(both: &mut BothDesk, sector: usize, steps: Steps, random: &mut Random) -> Vec<Event> {
     let mut events = Vec::new();
-    for step in steps.history(60, random) {
+    for step in steps.history(80, random) {
         let reply = step.make(both);
         let known = match step.call {
-            Call::Begin => true,
-            Call::SetShares { .. } => reply.number == 0,
+            Call::Begin | Call::SetShares { .. } => reply.number == 0,
             _ => step.call.sector() == Some(sector as u32),
         };
         if known {
@@ -82,7 +81,7 @@ fn second(both: &mut BothDesk, sector: usize, events: Vec<Event>, random: &mut R
 
 /// Calls of others, accepted and refused, and shares for all of which the sector's own stays.
 fn others_do_anything(both: &mut BothDesk, sector: usize, random: &mut Random) {
-    for _ in 0..random.below(4) {
+    for _ in 0..random.below(5) {
         let share = both.desk().seats[sector].share;
         let step = Steps::OF_ALL.draw_within(sector, share, random);
         if step.call.sector() != Some(sector as u32) {

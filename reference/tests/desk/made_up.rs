@@ -10,7 +10,7 @@ use crate::common::words::{any_job, arbitrary_area};
 use crate::common::Case;
 use crate::steps::{good_record, Areas, Steps};
 
-/// Cases of eight desks each, and histories.
+/// Cases of ten desks each, and histories.
 const CASES: u64 = 1_500;
 const HISTORIES: u64 = 600;
 
@@ -54,7 +54,7 @@ fn any_room(random: &mut Random) -> [u8; MATRIX_RECORD] {
 }
 
 /// A job that exists, one next to it, or anything.
-fn any_seat(random: &mut Random) -> Seat {
+pub fn job_or_none(random: &mut Random) -> Job {
     let mut job = any_job(random);
     match random.below(6) {
         0 => job.made = job.turn + 1,
@@ -63,8 +63,12 @@ fn any_seat(random: &mut Random) -> Seat {
         3 => job.turn = 120,
         _ => {}
     }
+    job
+}
+
+fn any_seat(random: &mut Random) -> Seat {
     Seat {
-        job,
+        job: job_or_none(random),
         heard: random.byte(),
         share: any_count(random),
         left: any_count(random),
@@ -92,15 +96,15 @@ fn desks_that_are_made_up_agree() {
         let mut random = case.random();
         let mut both = BothDesk::new(case, &mut seen);
         both.fill_area(0, &arbitrary_area(&mut random));
-        for _ in 0..8 {
+        for _ in 0..10 {
             let mut step = steps.draw(&mut random);
             step.lent.area = random.choose(&[0, 1, 1, 1, 2]);
             both.fill_area(1, &[0; 512]);
-            both.call_handed(&any_desk(&mut random), &step.call, step.lent);
+            both.call_handed(step.role, &any_desk(&mut random), &step.call, step.lent);
         }
     }
     seen.print("Made-up desks");
-    seen.assert_numbers(&[1, 2, 3, 4, 5, 6, 7, 8, 12, 13, 14]);
+    seen.assert_numbers(&[1, 2, 3, 4, 5, 6, 7, 8, 12, 13, 14, 15]);
     let brought_in = seen.matrices.brought_in;
     assert!(brought_in > CASES / 50, "few matrices were brought in");
 }
@@ -119,12 +123,12 @@ fn histories_from_desks_that_are_made_up_agree() {
         let mut both = BothDesk::new(case, &mut seen);
         (0..4).for_each(|area| both.fill_area(area, &[0; 512]));
         both.go_on_with(any_desk(&mut random));
-        for _ in 0..30 {
+        for _ in 0..40 {
             steps.draw(&mut random).make(&mut both);
         }
     }
     seen.print("Histories from made-up desks");
-    seen.assert_numbers(&[1, 2, 3, 4, 5, 6, 7, 8, 12, 13, 14]);
+    seen.assert_numbers(&[1, 2, 3, 4, 5, 6, 7, 8, 12, 13, 14, 15]);
     let brought_in = seen.matrices.brought_in;
     assert!(brought_in > HISTORIES / 6, "few matrices were brought in");
 }

@@ -5,6 +5,7 @@ use reference::desk::{Desk, Seat, SECTORS};
 use reference::job::Job;
 use reference::records::RESULT_RECORD;
 
+use crate::common::desk::role::{FITTER, OPERATOR};
 use crate::common::desk::{BothDesk, Call, Lent, Seen};
 use crate::common::words::arbitrary_area;
 use crate::common::Case;
@@ -26,11 +27,12 @@ fn a_run_makes_nothing() {
             let desk = Desk { seats };
             for request in [0, 1, 120, u16::MAX] {
                 let run = Call::Run { sector, request };
-                let reply = both.call_handed(&desk, &run, lent);
+                let reply = both.call_handed(OPERATOR, &desk, &run, lent);
                 assert_eq!((reply.number, reply.count), (0, 0));
                 assert_eq!((reply.job, reply.desk), (Job::new(120, 0), desk));
                 both.require(both.words(0)[..512] == words, "an area changed");
-                assert_eq!(both.call_handed(&desk, &run, short).number, 3);
+                let refused = both.call_handed(OPERATOR, &desk, &run, short);
+                assert_eq!(refused.number, 3);
             }
         }
     }
@@ -44,13 +46,13 @@ fn a_fetch_writes_what_the_area_holds() {
     let mut seen = Seen::default();
     let mut zeros = vec![0; RESULT_RECORD];
     zeros[0] = 2;
-    for sector in 0..8 {
+    for (sector, role) in (0..8).flat_map(|sector| [FITTER, OPERATOR].map(|role| (sector, role))) {
         let case = Case::of_words("Fetches of nobody", 1152, sector.into());
         let mut both = BothDesk::new(case, &mut seen);
         both.fill_area(1, &[0; AREA_WORDS]);
         let mut fetch = |area, words, bytes| {
             let lent = Lent { area, words, bytes };
-            let reply = both.call(&Call::Fetch { sector }, lent);
+            let reply = both.call(role, &Call::Fetch { sector }, lent);
             assert_eq!(reply.desk, Desk::NEW);
             (reply.number, both.fetched() == zeros)
         };
@@ -75,10 +77,11 @@ fn loading_one_sector_loads_no_other() {
         let record = good_record(&mut case.random());
         let mut both = BothDesk::new(case, &mut seen);
         let lent = Lent::area(sector as usize);
-        let heard = both.call(&Call::HandIn { sector, record }, lent).heard;
-        both.call(&Call::Run { sector, request: 9 }, lent);
+        let hand_in = Call::HandIn { sector, record };
+        let heard = both.call(OPERATOR, &hand_in, lent).heard;
+        both.call(OPERATOR, &Call::Run { sector, request: 9 }, lent);
         for other in 0..8 {
-            let reply = both.call(&Call::Heard { sector: other }, lent);
+            let reply = both.call(OPERATOR, &Call::Heard { sector: other }, lent);
             let due = if other == sector { heard } else { 0 };
             assert_eq!((reply.number, reply.heard), (0, due));
             let due = if other == sector { 9 } else { 120 };

@@ -9,6 +9,7 @@ use reference::job::Job;
 use reference::random::Random;
 use reference::records::write_matrix;
 
+use crate::common::desk::role::all_roles;
 use crate::common::desk::{BothDesk, Call, Lent, Seen};
 use crate::common::Case;
 use crate::steps::{desk_of, desk_waiting, BEYOND};
@@ -55,6 +56,7 @@ fn sectors() -> impl Iterator<Item = u32> + Clone {
 struct Numbers<'a> {
     both: BothDesk<'a>,
     sets: BTreeSet<Vec<u8>>,
+    calls: usize,
 }
 
 impl<'a> Numbers<'a> {
@@ -62,11 +64,12 @@ impl<'a> Numbers<'a> {
         Numbers {
             both: BothDesk::new(Case::of_words(test, seed, 0), seen),
             sets: BTreeSet::new(),
+            calls: 0,
         }
     }
 
-    /// Makes a call of which these tests fail, of all in the order in which they are made. It
-    /// answers the first of them, or is accepted.
+    /// Makes a call of which these tests fail, of all in the order in which they are made: by one who
+    /// may not make it, each time another one, and then by everybody who may.
     fn call<const N: usize>(
         &mut self,
         desk: &Desk,
@@ -74,16 +77,29 @@ impl<'a> Numbers<'a> {
         lent: Lent,
         tests: [(u8, bool); N],
     ) {
-        let failing = tests.into_iter().filter(|(_, fails)| *fails);
-        let failing: Vec<u8> = failing.map(|(number, _)| number).collect();
+        let (allowed, others): (Vec<u32>, Vec<u32>) =
+            all_roles().partition(|role| call.is_allowed_to(*role));
+        let other = others[self.calls % others.len()];
+        self.calls += 1;
+        let refused = [&[(15, true)], &tests[..]].concat();
+        self.call_by(other, desk, call, lent, &refused);
+        for role in allowed {
+            self.call_by(role, desk, call, lent, &tests);
+        }
+    }
+
+    /// Makes a call by one role. It answers the first test that fails, or is accepted.
+    fn call_by(&mut self, role: u32, desk: &Desk, call: &Call, lent: Lent, tests: &[(u8, bool)]) {
+        let failing = tests.iter().filter(|(_, fails)| *fails);
+        let failing: Vec<u8> = failing.map(|(number, _)| *number).collect();
         let due = failing.first().copied().unwrap_or(0);
-        let reply = self.both.call_handed(desk, call, lent);
+        let reply = self.both.call_handed(role, desk, call, lent);
         let right = reply.number == due;
         self.both.require(right, &format!("failing {failing:?}"));
         self.sets.insert(failing);
     }
 
-    /// Every set of so many tests has failed.
+    /// Every set of so many tests has failed, that of the role among them.
     fn assert_all_sets(&self, tests: u32) {
         assert_eq!(self.sets.len(), 1 << tests, "not every set of tests failed");
     }
@@ -135,7 +151,7 @@ fn a_refused_hand_in_answers_the_first_test_that_fails() {
             }
         }
     }
-    numbers.assert_all_sets(5);
+    numbers.assert_all_sets(6);
     seen.print("Sets of tests at a hand-in");
 }
 
@@ -164,7 +180,7 @@ fn a_refused_run_answers_the_first_test_that_fails() {
             }
         }
     }
-    numbers.assert_all_sets(4);
+    numbers.assert_all_sets(5);
     seen.print("Sets of tests at Run");
 }
 
@@ -176,7 +192,8 @@ fn areas() -> [[i32; AREA_WORDS]; 3] {
     [[0; AREA_WORDS], under, negative]
 }
 
-/// Whether a matrix waits or none, which a Fetch that succeeds brings in.
+/// Whether a matrix waits or none, which the operator's Fetch brings in, if it succeeds, after that of
+/// a fitter did not.
 #[test]
 fn a_refused_fetch_answers_the_first_test_that_fails() {
     let mut seen = Seen::default();
@@ -204,13 +221,13 @@ fn a_refused_fetch_answers_the_first_test_that_fails() {
             }
         }
     }
-    numbers.assert_all_sets(6);
+    numbers.assert_all_sets(7);
     seen.print("Sets of tests at Fetch");
 }
 
 /// Neither looks at a job, at a share or at what is left, and a round begins at any desk.
 #[test]
-fn heard_refuses_sectors_above_7_and_begin_nothing() {
+fn heard_tests_role_and_sector_and_begin_the_role_alone() {
     let mut seen = Seen::default();
     let mut numbers = Numbers::new("sets of tests at Heard", 1125, &mut seen);
     for (job, left) in JOBS
@@ -224,6 +241,25 @@ fn heard_refuses_sectors_above_7_and_begin_nothing() {
         }
         numbers.call(&desk, &Call::Begin, Lent::area(0), []);
     }
-    numbers.assert_all_sets(1);
+    numbers.assert_all_sets(2);
     seen.print("Sets of tests at Heard, and Begin");
+}
+
+/// Shares of 120 and less in total, and of more, at any desk.
+#[test]
+fn refused_shares_answer_the_first_test_that_fails() {
+    let mut seen = Seen::default();
+    let mut numbers = Numbers::new("sets of tests at Set shares", 1126, &mut seen);
+    let single = |share| [0, 0, 0, share, 0, 0, 0, 0];
+    let lists = [15, 0, 16, 8_192, u16::MAX].map(|share| [share; 8]);
+    for shares in lists.into_iter().chain([120, 121, 256].map(single)) {
+        let total: u32 = shares.iter().map(|share| u32::from(*share)).sum();
+        for (job, left) in JOBS.into_iter().flat_map(|job| LEFT.map(|n| (job, n))) {
+            let call = Call::SetShares { shares };
+            let tests = [(14, total > 120)];
+            numbers.call(&desk_of(job, left), &call, Lent::area(0), tests);
+        }
+    }
+    numbers.assert_all_sets(2);
+    seen.print("Sets of tests at Set shares");
 }

@@ -5,6 +5,7 @@ use reference::desk::Desk;
 use reference::job::Job;
 use reference::matrix::REAL_SIZE;
 
+use crate::common::desk::role::OPERATOR;
 use crate::common::desk::{BothDesk, Call, Lent, Seen};
 use crate::common::Case;
 use crate::hub::{clear_record, full_record, Hub};
@@ -35,7 +36,7 @@ fn the_smallest_of_three_is_granted() {
             let run = Call::Run { sector: 5, request };
             let others = random.choose(&[0, 1, 15, 120, u16::MAX]);
             let desk = desk_with(5, Job::new(turn, 0), left, others);
-            let reply = both.call_handed(&desk, &run, Lent::area(0));
+            let reply = both.call_handed(OPERATOR, &desk, &run, Lent::area(0));
             let refused = request > 0 && left == 0 && turn < 120;
             let number = if refused { 13 } else { 0 };
             both.require(reply.number == number, "another number");
@@ -64,7 +65,7 @@ fn a_count_that_is_used_up() {
                 ..Lent::area(2)
             };
             let desk = desk_with(sector as usize, job, 0, others);
-            let reply = both.call_handed(&desk, &call, lent);
+            let reply = both.call_handed(OPERATOR, &desk, &call, lent);
             (reply.number, reply.count, reply.job)
         };
         let nothing = Job::new(0, 0);

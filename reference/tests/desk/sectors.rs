@@ -6,6 +6,7 @@ use reference::job::Job;
 use reference::random::Random;
 use reference::records::MATRIX_RECORD;
 
+use crate::common::desk::role::OPERATOR;
 use crate::common::desk::{BothDesk, Call, Lent, Seen};
 use crate::common::Case;
 use crate::steps::{good_record, BEYOND};
@@ -41,7 +42,7 @@ fn call_all(sector: u32, desk: &Desk, seen: &mut Seen) -> [DeskReply; 4] {
     let mut both = BothDesk::new(case, seen);
     calls(sector).map(|call| {
         both.fill_area(0, &[0; AREA_WORDS]);
-        both.call_handed(desk, &call, Lent::area(0))
+        both.call_handed(OPERATOR, desk, &call, Lent::area(0))
     })
 }
 

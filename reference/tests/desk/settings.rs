@@ -2,6 +2,7 @@
 
 use reference::desk::{Desk, SECTORS};
 
+use crate::common::desk::role::OPERATOR;
 use crate::common::desk::{BothDesk, Call, Lent, Seen};
 use crate::common::Case;
 use crate::hub::{full_record, Hub};
@@ -22,7 +23,7 @@ impl<'a> Settings<'a> {
     /// They are refused exactly if they are above 120 in total.
     fn set(&mut self, desk: &Desk, shares: Shares) {
         let call = Call::SetShares { shares };
-        let reply = self.both.call_handed(desk, &call, Lent::area(0));
+        let reply = self.both.call_handed(OPERATOR, desk, &call, Lent::area(0));
         let due = if total(&shares) > 120 { 14 } else { 0 };
         self.both.require(reply.number == due, "another number");
     }

@@ -1,4 +1,5 @@
-//! Random steps of a history: calls of every kind, accepted and refused, in any order.
+//! Random steps of a history: calls of every kind and by every role, accepted and refused, in any
+//! order.
 
 use reference::cases::Kind;
 use reference::desk::{Desk, DeskReply, Seat};
@@ -6,6 +7,7 @@ use reference::job::Job;
 use reference::random::Random;
 use reference::records::write_matrix;
 
+use crate::common::desk::role::{FITTER, OPERATOR, UNKNOWN, VIEWER};
 use crate::common::desk::{BothDesk, Call, Lent};
 use crate::shares::{any_shares, dealt, giving, total};
 
@@ -50,6 +52,7 @@ pub fn desk_waiting(mut desk: Desk) -> Desk {
 /// One call of a history.
 #[derive(Debug, Clone)]
 pub struct Step {
+    pub role: u32,
     pub call: Call,
     pub lent: Lent,
     /// What stands in the place of the sector's job at the desk that is handed over: no job. The
@@ -71,10 +74,20 @@ impl Step {
     pub fn make(&self, both: &mut BothDesk) -> DeskReply {
         if self.no_job.is_some() {
             let handed = self.handed(both.desk());
-            both.call_handed(&handed, &self.call, self.lent)
+            both.call_handed(self.role, &handed, &self.call, self.lent)
         } else {
-            both.call(&self.call, self.lent)
+            both.call(self.role, &self.call, self.lent)
         }
+    }
+
+    /// The record that the call loads, if it is accepted.
+    pub fn loads(&self, handed: &Desk) -> Option<Vec<u8>> {
+        self.call.loads(self.role, handed)
+    }
+
+    /// Whether a round begins.
+    fn begins(&self) -> bool {
+        matches!(self.call, Call::Begin) && self.role == OPERATOR
     }
 }
 
@@ -125,18 +138,24 @@ impl Steps {
             let shares = dealt(120, self.served as usize, random);
             let opening = [Call::SetShares { shares }, Call::Begin];
             for (step, call) in steps.iter_mut().zip(opening) {
-                (step.call, step.no_job) = (call, None);
+                (step.role, step.call, step.no_job) = (OPERATOR, call, None);
             }
         }
         steps
     }
 
     pub fn draw(self, random: &mut Random) -> Step {
+        self.draw_by(any_role(random), random)
+    }
+
+    /// A step of a role.
+    pub fn draw_by(self, role: u32, random: &mut Random) -> Step {
         let sector = any_sector(self.served, random);
-        let call = if self.brisk && !random.one_in(4) {
-            brisk_call(sector, random)
-        } else {
-            any_call(sector, self.served, random)
+        let call = match role {
+            VIEWER if random.one_in(2) => Call::Heard { sector },
+            FITTER if random.one_in(2) => Call::Fetch { sector },
+            _ if self.brisk && !random.one_in(4) => brisk_call(sector, random),
+            _ => any_call(sector, self.served, random),
         };
         let area = match self.areas {
             Areas::Own if sector < 8 => sector as usize,
@@ -146,21 +165,44 @@ impl Steps {
         let lent = any_lent(area, random);
         let tested = matches!(call, Call::Run { .. } | Call::Fetch { .. });
         let no_job = (tested && sector < 8 && random.one_in(16)).then(|| no_job(random));
-        Step { call, lent, no_job }
+        Step {
+            role,
+            call,
+            lent,
+            no_job,
+        }
     }
 
     /// A step of the round that has begun, which leaves a sector its share.
     pub fn draw_within(self, sector: usize, share: u16, random: &mut Random) -> Step {
         let mut step = self.draw(random);
-        while matches!(step.call, Call::Begin) {
+        while step.begins() {
             step = self.draw(random);
         }
         if let Call::SetShares { shares } = &mut step.call {
-            if total(shares) <= 120 {
+            if total(shares) <= 120 && step.role == OPERATOR {
                 *shares = giving(sector, share, random);
             }
         }
         step
+    }
+}
+
+/// Three in four calls are the operator's.
+fn any_role(random: &mut Random) -> u32 {
+    if random.one_in(4) {
+        other_role(random)
+    } else {
+        OPERATOR
+    }
+}
+
+/// A fitter, a viewer, or a number that is no role.
+pub fn other_role(random: &mut Random) -> u32 {
+    match random.below(4) {
+        0..=1 => FITTER,
+        2 => VIEWER,
+        _ => random.choose(&UNKNOWN),
     }
 }
 
@@ -216,7 +258,7 @@ pub fn any_request(random: &mut Random) -> u16 {
 }
 
 /// Lengths around those that are just enough. Most are enough.
-fn any_lent(area: usize, random: &mut Random) -> Lent {
+pub fn any_lent(area: usize, random: &mut Random) -> Lent {
     let words: &[usize] = if random.one_in(12) {
         &[0, 1, 511]
     } else {

@@ -1,79 +1,16 @@
-//! A matrix that comes early: it waits, gives way to a later one, and is brought in by the Fetch of
-//! the one before. One after the other, each result is that of the matrix its job was loaded from.
+//! A matrix that comes early: it waits, gives way to a later one, and is brought in by the operator's
+//! Fetch of the one before. One after the other, each result is that of the matrix its job was loaded
+//! from. All calls are the operator's.
 
-use reference::desk::{Desk, DeskReply, Seat};
+use reference::desk::Desk;
 use reference::job::Job;
 
+use crate::common::desk::role::OPERATOR;
 use crate::common::desk::{BothDesk, Call, Lent, Seen};
 use crate::common::Case;
 use crate::hub::{clear_record, full_record};
-use crate::shares::giving;
+use crate::sector::{heard, Sector};
 use crate::steps::good_record;
-
-/// A sector that has a round of 120 turns to itself.
-struct Sector<'a> {
-    both: BothDesk<'a>,
-    sector: u32,
-}
-
-impl<'a> Sector<'a> {
-    fn new(case: Case, sector: u32, seen: &'a mut Seen) -> Self {
-        let mut random = case.random();
-        let both = BothDesk::new(case, seen);
-        let mut sector = Sector { both, sector };
-        let shares = giving(sector.sector as usize, 120, &mut random);
-        sector.call(&Call::SetShares { shares }, 0);
-        sector.begin();
-        sector
-    }
-
-    /// Makes a call that answers this number.
-    fn call(&mut self, call: &Call, number: u8) -> DeskReply {
-        let lent = Lent::area(self.sector as usize);
-        self.call_lent(call, lent, number)
-    }
-
-    fn call_lent(&mut self, call: &Call, lent: Lent, number: u8) -> DeskReply {
-        let reply = self.both.call(call, lent);
-        self.both.require(reply.number == number, "another number");
-        reply
-    }
-
-    fn begin(&mut self) {
-        self.call(&Call::Begin, 0);
-    }
-
-    /// Hands in a record, and answers whether it has to wait.
-    fn hand_in(&mut self, record: &[u8]) -> bool {
-        let (sector, record) = (self.sector, record.to_vec());
-        self.call(&Call::HandIn { sector, record }, 0);
-        self.seat().waits == 1
-    }
-
-    /// Goes on by so many turns.
-    fn run(&mut self, request: u16) {
-        let sector = self.sector;
-        let count = self.call(&Call::Run { sector, request }, 0).count;
-        self.both.require(count == request.into(), "another grant");
-    }
-
-    /// Fetches the result of a record.
-    fn fetch(&mut self, record: &[u8]) {
-        let sector = self.sector;
-        self.call(&Call::Fetch { sector }, 0);
-        self.both.require_result_of(record);
-    }
-
-    fn seat(&self) -> Seat {
-        self.both.desk().seats[self.sector as usize]
-    }
-}
-
-/// The heard byte that the engine's own Load answers.
-fn heard(record: &[u8]) -> u8 {
-    let loaded = hubqr::load(record, &mut [0; hubqr::AREA_WORDS]);
-    loaded.expect("the record is good").heard
-}
 
 /// From any turn number on, the next matrix changes nothing of the one before. It comes in with the
 /// Fetch, is right, and so is the one that is loaded at once after the last Fetch of all.
@@ -158,7 +95,7 @@ fn refuse_all(sector: &mut Sector, record: &[u8]) {
             sector: sector.sector,
             record,
         };
-        sector.call_lent(&call, Lent { words, ..own }, number);
+        sector.call_lent(OPERATOR, &call, Lent { words, ..own }, number);
         assert_eq!(*sector.both.desk(), kept);
     }
 }
@@ -199,7 +136,7 @@ fn a_refused_fetch_brings_nothing_in() {
         let other = (number as usize + 1) % 8;
         let refuse = |sector: &mut Sector, lent: Lent, due| {
             let kept = *sector.both.desk();
-            sector.call_lent(&fetch, lent, due);
+            sector.call_lent(OPERATOR, &fetch, lent, due);
             assert_eq!(*sector.both.desk(), kept);
         };
         sector.hand_in(&first);
@@ -229,7 +166,7 @@ struct Pair<'a> {
 
 impl Pair<'_> {
     fn call(&mut self, call: Call, area: usize) {
-        let reply = self.both.call(&call, Lent::area(area));
+        let reply = self.both.call(OPERATOR, &call, Lent::area(area));
         self.both.require(reply.number == 0, "refused");
     }
 
@@ -299,7 +236,7 @@ fn whatever_waits_is_brought_in() {
             seat.record.copy_from_slice(&record);
             seat.record[0] = kind;
             both.fill_area(3, &[0; 512]);
-            let reply = both.call_handed(&desk, &fetch, Lent::area(3));
+            let reply = both.call_handed(OPERATOR, &desk, &fetch, Lent::area(3));
             let seat = reply.desk.seats[6];
             assert_eq!((reply.number, seat.waits), (0, 0));
             let filled = both.words(3)[..512] != [0; 512];
@@ -334,7 +271,7 @@ fn a_job_that_is_none_is_left_by_a_load_alone() {
             Call::Run { sector, request },
             Call::Fetch { sector },
         ];
-        let numbers = calls.map(|call| both.call(&call, Lent::area(2)).number);
+        let numbers = calls.map(|call| both.call(OPERATOR, &call, Lent::area(2)).number);
         assert_eq!(numbers, [0, number, number]);
         assert_eq!(both.desk().seats[2].waits, number / 5);
     }

@@ -3,7 +3,9 @@
 //! compares each result, byte for byte, with what Whole makes of the same record. One sector requests
 //! all that it can and more, and the others are served all the same. Another one has its next matrix
 //! early: it is handed in while the first is worked, waits in the desk, and is brought in when the
-//! first is fetched.
+//! first is fetched. All this is done for the operator. A viewer and a fitter look at the first result
+//! of that sector before the operator has fetched it: the viewer gets the heard byte and no result, and
+//! the fitter the result, which leaves the next matrix waiting.
 //!
 //! ```text
 //! cargo run -p instalments --bin desk [RECORD...]
@@ -20,6 +22,7 @@ use std::io::{self, ErrorKind, Read, Write};
 use std::path::{Path, PathBuf};
 use std::process::ExitCode;
 
+use hubqr::Role::{self, Fitter, Operator, Viewer};
 use hubqr::{Desk, HandedIn, Refusal};
 use hubqr::{AREA_WORDS, MATRIX_RECORD_BYTES, RESULT_RECORD_BYTES, ROUND_TURNS, SECTORS, TURNS};
 
@@ -135,7 +138,7 @@ fn serve_rounds(hub: &mut Hub, output: &mut impl Write) -> io::Result<bool> {
     let mut right = true;
     print_header(output)?;
     let mut round = 1;
-    while !hub.desk.jobs.iter().all(|job| job.is_finished()) && hub.desk.begin().is_ok() {
+    while !hub.desk.jobs.iter().all(|job| job.is_finished()) && hub.desk.begin(Operator).is_ok() {
         if round == EARLY_ROUND {
             let next = hub.next.clone();
             hand_in(hub, EARLY, &next, output)?;
@@ -156,7 +159,7 @@ fn set_shares(hub: &mut Hub, shares: [u16; SECTORS], output: &mut impl Write) ->
         "shares {}: ",
         shares.map(|s| s.to_string()).join(" ")
     )?;
-    match hub.desk.set_shares(shares) {
+    match hub.desk.set_shares(Operator, shares) {
         Ok(()) => writeln!(output, "set"),
         Err(refusal) => print_refusal(refusal, output),
     }
@@ -165,12 +168,13 @@ fn set_shares(hub: &mut Hub, shares: [u16; SECTORS], output: &mut impl Write) ->
 /// Hands in a matrix for a sector: it is loaded or waits, and the desk tells which. A refused hand-in
 /// leaves the sector as it was, with what waits for it, and the others are served all the same.
 fn hand_in(hub: &mut Hub, k: usize, matrix: &Matrix, output: &mut impl Write) -> io::Result<()> {
-    let sector = &mut hub.sectors[k];
-    let reply = hub.desk.hand_in(k as u32, &matrix.record, &mut sector.area);
+    let Hub { desk, sectors, .. } = hub;
+    let sector = &mut sectors[k];
+    let reply = desk.hand_in(Operator, k as u32, &matrix.record, &mut sector.area);
     write!(output, "sector {k}: {}: ", matrix.path.display())?;
     match reply {
         Err(refusal) => print_refusal(refusal, output),
-        Ok(HandedIn { heard, job, .. }) if hub.desk.waits[k] != 0 => writeln!(
+        Ok(HandedIn { heard, job, .. }) if desk.waits[k] != 0 => writeln!(
             output,
             "waits, heard byte {heard:02X} and turn number {} as they stand",
             job.turn
@@ -205,22 +209,23 @@ fn print_header(output: &mut impl Write) -> io::Result<()> {
 /// more: none of that is taken from those that come after it.
 fn serve_round(hub: &mut Hub, round: u32, output: &mut impl Write) -> io::Result<()> {
     let mut refused = None;
+    let Hub { desk, sectors, .. } = hub;
     write!(output, "{round:5}")?;
-    for k in 0..SECTORS {
-        if hub.desk.jobs[k].is_finished() {
+    for (k, sector) in sectors.iter_mut().enumerate() {
+        if desk.jobs[k].is_finished() {
             write!(output, "  {:>3}", "-")?;
             continue;
         }
-        let sector = &mut hub.sectors[k];
         let request = match k {
             GREEDY => ROUND_TURNS,
-            _ => hub.desk.shares[k],
+            _ => desk.shares[k],
         };
-        let ran = hub.desk.run(k as u32, request, &mut sector.area);
-        write!(output, "  {:3}", ran.map_or(0, |progress| progress.count))?;
+        let mut run = || desk.run(Operator, k as u32, request, &mut sector.area);
+        let count = run().map_or(0, |progress| progress.count);
+        write!(output, "  {count:3}")?;
         sector.rounds += 1;
         if k == GREEDY {
-            refused = hub.desk.run(k as u32, request, &mut sector.area).err();
+            refused = run().err();
         }
     }
     if let Some(refusal) = refused {
@@ -236,7 +241,7 @@ fn print_results(hub: &mut Hub, output: &mut impl Write) -> io::Result<bool> {
     let mut right = true;
     for k in 0..=SECTORS {
         write!(output, "sector {k}: ")?;
-        match hub.desk.heard(k as u32) {
+        match hub.desk.heard(Operator, k as u32) {
             Err(refusal) => print_refusal(refusal, output)?,
             Ok(0) => writeln!(output, "heard byte 00, never loaded")?,
             Ok(_) => right = print_result(hub, k, output)? && right,
@@ -257,18 +262,52 @@ fn print_result(hub: &mut Hub, k: usize, output: &mut impl Write) -> io::Result<
         output,
         "share {share}, finished in {rounds} rounds of at most {most}, "
     )?;
-    let same = fetched_as_whole(hub, k).unwrap_or(false);
+    let same = fetched_as_whole(hub, Operator, k).unwrap_or(false);
     let is = if same { "is" } else { "is not" };
     writeln!(output, "the result {is} the one that Whole makes")?;
     Ok(same && rounds <= most)
 }
 
-/// Fetches the first result of the sector whose next matrix waits, once it is finished. Answers whether
-/// it is right.
+/// Prints what a viewer gets of the sector whose next matrix waits: its heard byte, and not its result.
+/// Answers whether the result is refused.
+fn print_viewer(hub: &mut Hub, output: &mut impl Write) -> io::Result<bool> {
+    let heard = hub.desk.heard(Viewer, EARLY as u32).unwrap_or(0);
+    write!(
+        output,
+        "viewer of sector {EARLY}: heard byte {heard:02X}, and the result is "
+    )?;
+    let refusal = fetch(hub, Viewer, EARLY).err();
+    match refusal {
+        None => writeln!(output, "fetched")?,
+        Some(refusal) => print_refusal(refusal, output)?,
+    }
+    Ok(refusal == Some(Refusal::NotAllowed))
+}
+
+/// Prints what a fitter gets of it: the result, as often as it likes. Answers whether it is right, and
+/// the next matrix goes on waiting.
+fn print_fitter(hub: &mut Hub, output: &mut impl Write) -> io::Result<bool> {
+    let same = (0..2).all(|_| fetched_as_whole(hub, Fitter, EARLY).unwrap_or(false));
+    let is = if same { "is" } else { "is not" };
+    write!(
+        output,
+        "fitter of sector {EARLY}: the result, fetched twice, {is} the one that Whole makes, "
+    )?;
+    let waits = hub.desk.waits[EARLY] != 0;
+    let goes_on = if waits { "goes on" } else { "ends" };
+    writeln!(output, "and the next matrix {goes_on} waiting")?;
+    Ok(same && waits)
+}
+
+/// Fetches the first result of the sector whose next matrix waits, once it is finished: for a viewer,
+/// for a fitter and then for the operator, whose Fetch brings that matrix in. Answers whether all of it
+/// is right.
 fn fetch_early(hub: &mut Hub, output: &mut impl Write) -> io::Result<bool> {
     if hub.desk.waits[EARLY] == 0 || !hub.desk.jobs[EARLY].is_finished() {
         return Ok(true);
     }
+    let viewed = print_viewer(hub, output)?;
+    let fitted = print_fitter(hub, output)?;
     write!(output, "sector {EARLY}: ")?;
     let right = print_result(hub, EARLY, output)?;
     let sector = &mut hub.sectors[EARLY];
@@ -280,15 +319,22 @@ fn fetch_early(hub: &mut Hub, output: &mut impl Write) -> io::Result<bool> {
         hub.next.path.display(),
         hub.desk.heard[EARLY]
     )?;
-    Ok(right)
+    Ok(viewed && fitted && right)
+}
+
+/// Fetches the result of a sector for a role.
+fn fetch(hub: &mut Hub, role: Role, k: usize) -> Result<[u8; RESULT_RECORD_BYTES], Refusal> {
+    let mut result = [0; RESULT_RECORD_BYTES];
+    let area = &mut hub.sectors[k].area;
+    hub.desk.fetch(role, k as u32, area, &mut result)?;
+    Ok(result)
 }
 
 /// Whether the result that is fetched for a sector is the one that Whole makes of its record.
-fn fetched_as_whole(hub: &mut Hub, k: usize) -> Result<bool, Refusal> {
-    let Sector { matrix, area, .. } = &mut hub.sectors[k];
-    let mut fetched = [0; RESULT_RECORD_BYTES];
-    hub.desk.fetch(k as u32, area, &mut fetched)?;
+fn fetched_as_whole(hub: &mut Hub, role: Role, k: usize) -> Result<bool, Refusal> {
+    let fetched = fetch(hub, role, k)?;
     let mut expected = [0; RESULT_RECORD_BYTES];
-    hubqr::whole(&matrix.record, &mut [0; AREA_WORDS], &mut expected)?;
+    let record = &hub.sectors[k].matrix.record;
+    hubqr::whole(record, &mut [0; AREA_WORDS], &mut expected)?;
     Ok(fetched == expected)
 }

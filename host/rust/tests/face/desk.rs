@@ -1,12 +1,16 @@
 //! The desk: each sector beside the engine's own calls on another area, what its share grants it, and
-//! refusals.
+//! refusals. Where nothing else is said, the operator calls.
+mod raw;
+mod roles;
 mod waiting;
 
 use crate::job::element;
 use crate::lent::{at, equal_parts, matrix, mixed_matrix, Lent};
 use hubqr::Refusal::{self, *};
+use hubqr::Role::{self, Fitter, Operator, Viewer};
 use hubqr::{ffi, Desk, Job, AREA_WORDS, KIND_RESULT, MATRIX_RECORD_BYTES, RESULT_RECORD_BYTES};
 use hubqr::{FIRST_SHARE, ROUND_TURNS, SECTORS};
+use raw::OPERATOR;
 use std::mem::{align_of, offset_of, size_of};
 
 /// Numbers of no sector. Cut to a byte, to 16 bits or to its last three bits, each would be one.
@@ -66,13 +70,16 @@ impl Hub {
     /// Hands in a record, which answers the desk that is due, and the job and the heard byte that the
     /// sector has there.
     fn hand_in(&mut self, sector: usize, record: &[u8], due: &Desk) {
-        let area = &mut self.lent[sector].area;
-        let handed_in = self.desk.hand_in(sector as u32, record, area).unwrap();
+        let (number, area) = (sector as u32, &mut self.lent[sector].area);
+        let reply = self.desk.hand_in(Operator, number, record, area);
+        let handed_in = reply.unwrap();
         assert_eq!(&self.desk, due);
         assert_eq!(handed_in.job, due.jobs[sector]);
         assert_eq!(handed_in.heard, due.heard[sector]);
         assert_eq!(self.lent[sector], self.alone[sector]);
-        assert_eq!(self.desk.heard(sector as u32), Ok(handed_in.heard));
+        for role in [Viewer, Fitter, Operator] {
+            assert_eq!(self.desk.heard(role, number), Ok(handed_in.heard));
+        }
     }
 
     /// A Run that is granted so many turns, which the sector pays of what it has left.
@@ -84,16 +91,20 @@ impl Hub {
         due.jobs[sector] = alone.job;
         due.left[sector] -= granted;
         let area = &mut self.lent[sector].area;
-        let progress = self.desk.run(sector as u32, request, area);
+        let progress = self.desk.run(Operator, sector as u32, request, area);
         assert_eq!((progress, &self.desk), (Ok(alone), &due));
         assert_eq!(self.lent[sector], self.alone[sector]);
     }
 
-    /// A Fetch gives what Whole makes of the record. With none waiting, desk and area stay; otherwise the
-    /// one that waits is loaded.
     fn fetch(&mut self, sector: usize, record: &[u8]) {
+        self.fetch_by(Operator, sector, record);
+    }
+
+    /// A Fetch gives what Whole makes of the record. Where one waits and the operator fetches, that one is
+    /// loaded; otherwise desk and area stay.
+    fn fetch_by(&mut self, role: Role, sector: usize, record: &[u8]) {
         let mut due = self.desk.clone();
-        if due.waits[sector] > 0 {
+        if role == Operator && due.waits[sector] > 0 {
             let next = room(&mut due, sector).to_vec();
             let alone = hubqr::load(&next, &mut self.alone[sector].area).unwrap();
             (due.jobs[sector], due.heard[sector]) = (alone.job, alone.heard);
@@ -102,7 +113,7 @@ impl Hub {
         let mut whole = Lent::new();
         hubqr::whole(record, &mut whole.area, &mut whole.buffer).unwrap();
         let (area, mut buffer) = (&mut self.lent[sector].area, Lent::new().buffer);
-        let fetched = self.desk.fetch(sector as u32, area, &mut buffer);
+        let fetched = self.desk.fetch(role, sector as u32, area, &mut buffer);
         assert_eq!((fetched, &self.desk), (Ok(()), &due));
         assert_eq!(buffer, whole.buffer);
         assert_eq!(self.lent[sector], self.alone[sector]);
@@ -110,14 +121,14 @@ impl Hub {
 
     /// A Run that is refused, since the sector has nothing left.
     fn used_up(&self, sector: usize, request: u16) {
-        let run = |d: &mut Desk, l: &mut Lent| d.run(sector as u32, request, &mut l.area);
+        let run = |d: &mut Desk, l: &mut Lent| d.run(Operator, sector as u32, request, &mut l.area);
         refused(&self.desk, run, CountUsedUp);
     }
 
     fn begin(&mut self) {
         let left = self.desk.shares;
         let due = Desk { left, ..self.desk };
-        assert_eq!((self.desk.begin(), &self.desk), (Ok(()), &due));
+        assert_eq!((self.desk.begin(Operator), &self.desk), (Ok(()), &due));
     }
 
     fn set_shares(&mut self, shares: [u16; SECTORS]) {
@@ -125,7 +136,7 @@ impl Hub {
             shares,
             ..self.desk
         };
-        let set = self.desk.set_shares(shares);
+        let set = self.desk.set_shares(Operator, shares);
         assert_eq!((set, &self.desk), (Ok(()), &due));
     }
 }
@@ -338,8 +349,9 @@ fn shares_of_up_to_120_are_set() {
 #[test]
 fn shares_above_120_in_total_are_refused() {
     let refuse = |shares| {
+        let set = |d: &mut Desk, _: &mut Lent| d.set_shares(Operator, shares);
         for desk in [Desk::new(), busy(), made_up()] {
-            refused(&desk, |d, _| d.set_shares(shares), SharesExceedRound);
+            refused(&desk, set, SharesExceedRound);
         }
     };
     refuse([u16::MAX; SECTORS]);
@@ -387,13 +399,13 @@ fn a_sector_that_was_never_loaded_is_served() {
         hub.desk.left = [left; SECTORS];
         for sector in 0..SECTORS as u32 {
             hub.run(sector as usize, u16::MAX, 0);
-            assert_eq!(hub.desk.heard(sector), Ok(0));
-            let mut buffer = [7; RESULT_RECORD_BYTES];
-            let fetched = hub.desk.fetch(sector, &mut [0; AREA_WORDS], &mut buffer);
+            assert_eq!(hub.desk.heard(Operator, sector), Ok(0));
+            let (mut area, mut buffer) = ([0; AREA_WORDS], [7; RESULT_RECORD_BYTES]);
+            let fetched = hub.desk.fetch(Operator, sector, &mut area, &mut buffer);
             assert_eq!((fetched, buffer[0]), (Ok(()), KIND_RESULT));
             assert_eq!(buffer[1..], [0; RESULT_RECORD_BYTES - 1]);
             let fetch = |desk: &mut Desk, lent: &mut Lent, bytes: usize| {
-                desk.fetch(sector, &mut lent.area, &mut lent.buffer[..bytes])
+                desk.fetch(Operator, sector, &mut lent.area, &mut lent.buffer[..bytes])
             };
             refused(&hub.desk, |d, l| fetch(d, l, 2048), BufferTooShort);
             refused(&hub.desk, |d, l| fetch(d, l, 2049), NotTriangular);
@@ -406,10 +418,12 @@ fn a_sector_that_was_never_loaded_is_served() {
 fn a_made_up_desk_is_taken_as_it_is() {
     let mut hub = Hub::new();
     hub.desk = made_up();
-    assert_eq!(hub.desk.heard(2), Ok(0xc3));
+    assert_eq!(hub.desk.heard(Operator, 2), Ok(0xc3));
     hub.run(6, u16::MAX, 2);
-    refused(&hub.desk, |d, l| d.run(2, 1, &mut l.area), NoSuchJob);
-    refused(&hub.desk, |d, l| d.run(7, 0, &mut l.area), NoSuchJob);
+    for (sector, request) in [(2, 1), (7, 0)] {
+        let run = |d: &mut Desk, l: &mut Lent| d.run(Operator, sector, request, &mut l.area);
+        refused(&hub.desk, run, NoSuchJob);
+    }
     hub.load(7, &record_of(2));
     hub.run(7, u16::MAX, 120);
     assert_eq!(hub.desk.left[7], u16::MAX - 120);
@@ -426,24 +440,35 @@ fn a_made_up_desk_is_taken_as_it_is() {
 /// Another sector is refused first, whatever else is wrong.
 #[test]
 fn no_other_sector_is_served() {
-    let (record, hum) = (mixed_matrix(), equal_parts(2));
     for sector in NO_SECTORS {
         for job in [at(7, 5), at(120, 0), at(5, 6)] {
             for left in [0, 9] {
-                let desk = placed(sector as usize % SECTORS, job, left);
-                let with = NoSuchSector;
-                refused(&desk, |d, l| d.hand_in(sector, &record, &mut l.area), with);
-                refused(&desk, |d, l| d.hand_in(sector, &hum, &mut l.area), with);
-                refused(&desk, |d, _| d.hand_in(sector, &[], &mut []), with);
-                refused(&desk, |d, l| d.run(sector, 1, &mut l.area), with);
-                refused(&desk, |d, _| d.run(sector, 0, &mut []), with);
-                let fetch =
-                    |d: &mut Desk, l: &mut Lent| d.fetch(sector, &mut l.area, &mut l.buffer);
-                refused(&desk, fetch, with);
-                refused(&desk, |d, _| d.fetch(sector, &mut [], &mut []), with);
-                refused(&desk, |d, _| d.heard(sector), with);
+                refuses_sector(&placed(sector as usize % SECTORS, job, left), sector);
             }
         }
+    }
+}
+
+/// Each call for one sector refuses this one.
+fn refuses_sector(desk: &Desk, sector: u32) {
+    let with = NoSuchSector;
+    for (record, words) in [(&mixed_matrix(), 515), (&equal_parts(2), 515), (&vec![], 0)] {
+        let hand_in =
+            |d: &mut Desk, l: &mut Lent| d.hand_in(Operator, sector, record, &mut l.area[..words]);
+        refused(desk, hand_in, with);
+    }
+    for (request, words) in [(1, 515), (0, 0)] {
+        let run =
+            |d: &mut Desk, l: &mut Lent| d.run(Operator, sector, request, &mut l.area[..words]);
+        refused(desk, run, with);
+    }
+    for role in [Fitter, Operator] {
+        let fetch = |d: &mut Desk, l: &mut Lent| d.fetch(role, sector, &mut l.area, &mut l.buffer);
+        refused(desk, fetch, with);
+        refused(desk, |d, _| d.fetch(role, sector, &mut [], &mut []), with);
+    }
+    for role in [Viewer, Fitter, Operator] {
+        refused(desk, |d, _| d.heard(role, sector), with);
     }
 }
 
@@ -455,8 +480,9 @@ fn hand_in_refuses() {
     for (sector, job) in (0..SECTORS).flat_map(|sector| jobs.map(|job| (sector, job))) {
         let desk = placed(sector, job, 0);
         let refuse = |record: &[u8], words: usize, with| {
-            let hand_in =
-                |d: &mut Desk, l: &mut Lent| d.hand_in(sector as u32, record, &mut l.area[..words]);
+            let hand_in = |d: &mut Desk, l: &mut Lent| {
+                d.hand_in(Operator, sector as u32, record, &mut l.area[..words])
+            };
             refused(&desk, hand_in, with);
         };
         refuse(&[], 512, WrongKind);
@@ -474,8 +500,9 @@ fn run_refuses() {
     for sector in 0..SECTORS {
         let refuse = |job, left, request, words: usize, with| {
             let desk = placed(sector, job, left);
-            let run =
-                |d: &mut Desk, l: &mut Lent| d.run(sector as u32, request, &mut l.area[..words]);
+            let run = |d: &mut Desk, l: &mut Lent| {
+                d.run(Operator, sector as u32, request, &mut l.area[..words])
+            };
             refused(&desk, run, with);
         };
         refuse(at(7, 5), 9, 1, 511, AreaTooShort);
@@ -498,10 +525,11 @@ fn run_refuses() {
 /// Whether a matrix waits, as for every other sector, or none: nothing is brought in.
 #[test]
 fn fetch_refuses() {
-    for sector in 0..SECTORS {
+    for (sector, role) in (0..SECTORS).flat_map(|sector| [(sector, Fitter), (sector, Operator)]) {
         let refuse = |job, words: usize, bytes: usize, with| {
             let fetch = |d: &mut Desk, l: &mut Lent| {
-                d.fetch(sector as u32, &mut l.area[..words], &mut l.buffer[..bytes])
+                let (area, buffer) = (&mut l.area[..words], &mut l.buffer[..bytes]);
+                d.fetch(role, sector as u32, area, buffer)
             };
             refused(&placed(sector, job, 0), fetch, with);
         };
@@ -522,9 +550,7 @@ fn fetch_refuses() {
 fn a_refused_run_gives_the_desk_back_and_no_job() {
     let mut area = [7; AREA_WORDS];
     let mut given_back = |desk: Desk, sector, words: usize, with: Refusal| {
-        let handed = desk.clone();
-        // SAFETY: the length is at most that of the array.
-        let reply = unsafe { ffi::hubqr_desk_run(handed, sector, 1, area.as_mut_ptr(), words) };
+        let reply = raw::run(OPERATOR, &desk, sector, 1, &mut area[..words]);
         let due = ffi::DeskRunReply {
             desk,
             number: with.number(),
@@ -551,15 +577,10 @@ fn a_refused_run_gives_the_desk_back_and_no_job() {
 fn refused_replies_hold_nothing_else() {
     let hum = equal_parts(2);
     let (area, buffer) = (&mut [7; AREA_WORDS], &mut [7; RESULT_RECORD_BYTES]);
-    // SAFETY: pointers and lengths are those of arrays.
-    let (handed_in, heard, fetched, set) = unsafe {
-        (
-            ffi::hubqr_desk_hand_in(busy(), 1, hum.as_ptr(), hum.len(), area.as_mut_ptr(), 512),
-            ffi::hubqr_desk_heard(busy(), 8),
-            ffi::hubqr_desk_fetch(busy(), 1, area.as_mut_ptr(), 512, buffer.as_mut_ptr(), 2049),
-            ffi::hubqr_desk_set_shares(busy(), ffi::Shares { shares: [16; 8] }),
-        )
-    };
+    let handed_in = raw::hand_in(OPERATOR, &busy(), 1, &hum, area);
+    let heard = raw::heard(OPERATOR, &busy(), 8);
+    let fetched = raw::fetch(OPERATOR, &busy(), 1, area, buffer);
+    let set = raw::set_shares(OPERATOR, &busy(), [16; SECTORS]);
     let due = ffi::DeskLoadReply {
         desk: busy(),
         number: NoneHeard.number(),

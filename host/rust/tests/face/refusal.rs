@@ -39,6 +39,10 @@ fn each_has_words_of_its_own() {
         Refusal::SharesExceedRound.to_string(),
         "the shares are above 120 in total"
     );
+    assert_eq!(
+        Refusal::NotAllowed.to_string(),
+        "the call is not allowed to this role"
+    );
     assert_eq!(UnknownNumber(0).to_string(), "0 is no refusal number");
 }
 

@@ -6,9 +6,10 @@ use reference::area::AREA_WORDS;
 use reference::desk::{Desk, SECTORS};
 use reference::records::RESULT_RECORD;
 
+use super::role::OPERATOR;
 use crate::common::twin::hexadecimal;
 
-/// A call, with what is handed over beside the desk.
+/// A call, with what is handed over beside the desk and the role.
 #[derive(Debug, Clone)]
 pub enum Call {
     Begin,
@@ -31,11 +32,17 @@ impl Call {
         }
     }
 
+    pub fn is_fetch(&self) -> bool {
+        matches!(self, Call::Fetch { .. })
+    }
+
     /// The record that the call loads, if it is accepted: the one that is handed in to a sector whose
-    /// work is done and for which none waits, or the one that waits where a result is fetched.
-    pub fn loads(&self, desk: &Desk) -> Option<Vec<u8>> {
+    /// work is done and for which none waits, or the one that waits where the operator fetches a
+    /// result.
+    pub fn loads(&self, role: u32, desk: &Desk) -> Option<Vec<u8>> {
         let seat = desk.seats.get(self.sector()? as usize)?;
         match self {
+            _ if role != OPERATOR => None,
             Call::HandIn { record, .. } if seat.job.turn >= 120 && seat.waits == 0 => {
                 Some(record.clone())
             }

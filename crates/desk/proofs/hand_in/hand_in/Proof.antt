@@ -2,16 +2,16 @@
 use mathlib.Core.Path.{_≡_, refl, sym, _∙_}
 use mathlib.Core.Bool.{Bool}
 use mathlib.Core.List.{List}
-use Prim.Native.Nat.{ℕ, zero, suc}
+use Prim.Native.Nat.{ℕ, zero, suc, _<_}
 use lib.IntN.{ℤ}
 use borrow.Author.Needs.{needs}
 use Rattle.refusals.proofs.Refusals.{first-none}
 use Rattle.engine.specs.Load.{loadRefusal}
 use Rattle.engine.proofs.Accepted.{load-accepted}
 use Rattle.desk.specs.declared.Desk.{Desk}
-use Rattle.desk.specs.Desk.{sectorTest}
+use Rattle.desk.specs.Roles.{mayOperate, admissionTest}
 use Rattle.desk.specs.HandIn.{handInRefusal, handInBy, handInOf}
-use Rattle.desk.proofs.Accepted.{sector-passed}
+use Rattle.desk.proofs.Accepted.{admitted}
 use Rattle.desk.proofs.hand_in.hand_in.Statement.{statement}
 use Rattle.desk.proofs.hand_in.hand_in.Tie as tie
 
@@ -32,22 +32,22 @@ unfolding handInOf
 returns c = rw (← (c .before .hand-in-refusal .ensures)) (refused _ _ _ _ _ _ (c .if1 .taken))
 
 -- past the tests
-none : (c : tie.Else1) → let a = c .before .before .before .before .args in handInRefusal (a .sector) (a .bytes .now) (a .area .now) ≡ 0
+none : (c : tie.Else1) → let a = c .before .before .before .before .args in handInRefusal (a .role) (a .sector) (a .bytes .now) (a .area .now) ≡ 0
 none c = sym (c .before .hand-in-refusal .ensures) ∙ c .if1 .left
 
 record Tested (sector : ℕ) (rec : List ℕ) (area : List ℤ) : Type 0 where
-  there : sectorTest sector ≡ 0
+  there : sector < 8
   engine : loadRefusal rec area ≡ 0
 
-passed : (sector : ℕ) (rec : List ℕ) (area : List ℤ) → handInRefusal sector rec area ≡ 0 → Tested sector rec area
+passed : (role sector : ℕ) (rec : List ℕ) (area : List ℤ) → handInRefusal role sector rec area ≡ 0 → Tested sector rec area
 unfolding handInRefusal
-passed sector rec area h = let a = first-none (sectorTest sector) _ h in record { there = a .0; engine = a .1 }
+passed role sector rec area h = let a = first-none (admissionTest (mayOperate role) sector) _ h in record { there = admitted (mayOperate role) sector (a .0); engine = a .1 }
 
 must-wait-requires : tie.Need-must-wait-requires
-must-wait-requires c κs = sector-passed _ (passed _ _ _ (none c) .there)
+must-wait-requires c κs = passed _ _ _ _ (none c) .there
 
 wait-requires : tie.Need-wait-requires
-wait-requires c κs = let t = passed _ _ _ (none (c .before .before)) in (sector-passed _ (t .there), load-accepted _ _ (t .engine) .header .sized)
+wait-requires c κs = let t = passed _ _ _ _ (none (c .before .before)) in (t .there, load-accepted _ _ (t .engine) .header .sized)
 
 same-length-2 : tie.Need-same-length-2
 same-length-2 c = search needs
@@ -60,11 +60,11 @@ returns-2 c =
 
 take-in-requires : tie.Need-take-in-requires
 take-in-requires c κs =
-    let a = load-accepted _ _ (passed _ _ _ (none (c .before .before .before)) .engine) in
+    let a = load-accepted _ _ (passed _ _ _ _ (none (c .before .before .before)) .engine) in
     (a .header .sized, a .room)
 
 seated-requires : tie.Need-seated-requires
-seated-requires c κs = sector-passed _ (passed _ _ _ (none (c .before .before .before .before .before)) .there)
+seated-requires c κs = passed _ _ _ _ (none (c .before .before .before .before .before)) .there
 
 same-length-3 : tie.Need-same-length-3
 same-length-3 c = search needs

@@ -1,7 +1,7 @@
 -- `run` meets its contract: past the tests, the engine's Run is accepted, and the sector's count can pay what it takes. Assumes nothing.
 use mathlib.Core.Path.{_≡_, refl, sym, ap, _∙_}
 use mathlib.Core.List.{List}
-use Prim.Native.Nat.{ℕ, zero, suc, _-_, _≤_, min}
+use Prim.Native.Nat.{ℕ, zero, suc, _-_, _≤_, _<_, min}
 use native.Mathlib.Omega.{arith}
 use lib.IntN.{ℤ}
 use borrow.Author.Needs.{needs}
@@ -10,9 +10,10 @@ use Rattle.engine.specs.declared.job.Job.{Job}
 use Rattle.engine.specs.declared.run.RunReply.{RunReply}
 use Rattle.engine.specs.Run.{RunOutcome, runRefusal, runDone, runBy, runOf}
 use Rattle.desk.specs.declared.Desk.{Desk}
-use Rattle.desk.specs.Desk.{sectorTest, jobAt, leftAt, paid}
+use Rattle.desk.specs.Desk.{jobAt, leftAt, paid}
+use Rattle.desk.specs.Roles.{mayOperate, admissionTest}
 use Rattle.desk.specs.Run.{DeskRunOutcome, deskRunRefusal, grant, deskRunDone, deskRunBy, deskRunOf}
-use Rattle.desk.proofs.Accepted.{sector-passed}
+use Rattle.desk.proofs.Accepted.{admitted}
 use Rattle.desk.proofs.run.run.Statement.{statement}
 use Rattle.desk.proofs.run.run.Tie as tie
 
@@ -33,27 +34,27 @@ unfolding deskRunOf
 returns c = rw (← c .before .run-refusal .ensures) (refused _ _ _ _ _ (c .if1 .taken))
 
 -- past the tests
-none : (c : tie.Else1) → let a = c .before .before .before .args in deskRunRefusal (a .desk) (a .sector) (a .request) (a .area .now) ≡ 0
+none : (c : tie.Else1) → let a = c .before .before .before .args in deskRunRefusal (a .role) (a .desk) (a .sector) (a .request) (a .area .now) ≡ 0
 none c = sym (c .before .run-refusal .ensures) ∙ c .if1 .left
 
 record Tested (desk : Desk) (sector : ℕ) (area : List ℤ) : Type 0 where
-  there : sectorTest sector ≡ 0
+  there : sector < 8
   engine : runRefusal (jobAt desk sector) area ≡ 0
 
-passed : (desk : Desk) (sector request : ℕ) (area : List ℤ) → deskRunRefusal desk sector request area ≡ 0 → Tested desk sector area
+passed : (role : ℕ) (desk : Desk) (sector request : ℕ) (area : List ℤ) → deskRunRefusal role desk sector request area ≡ 0 → Tested desk sector area
 unfolding deskRunRefusal
-passed desk sector request area h =
-    let a = first-none (sectorTest sector) _ h in
-    record { there = a .0; engine = first-none (runRefusal (jobAt desk sector) area) _ (a .1) .0 }
+passed role desk sector request area h =
+    let a = first-none (admissionTest (mayOperate role) sector) _ h in
+    record { there = admitted (mayOperate role) sector (a .0); engine = first-none (runRefusal (jobAt desk sector) area) _ (a .1) .0 }
 
 left-at-requires : tie.Need-left-at-requires
-left-at-requires c κs = sector-passed _ (passed _ _ _ _ (none c) .there)
+left-at-requires c κs = passed _ _ _ _ _ (none c) .there
 
 smaller-requires : tie.Need-smaller-requires
 smaller-requires c κs = search needs
 
 job-at-requires : tie.Need-job-at-requires
-job-at-requires c κs = sector-passed _ (passed _ _ _ _ (none (c .before .before)) .there)
+job-at-requires c κs = passed _ _ _ _ _ (none (c .before .before)) .there
 
 run-requires : tie.Need-run-requires
 run-requires c κs = search needs
@@ -75,7 +76,7 @@ ran : (c : tie.After-run) → let m = c .before .before .before in
     _≡_ {A = RunOutcome} (record { reply = c .run .result; workspace = c .run .last .1 .1 .0 }) (runDone job (min (m .smaller .result) (120 - job .turn)) (a .area .now))
 ran c =
     let j = c .before .before in
-    accepted _ _ _ _ _ _ (j .job-at .ensures) (passed _ _ _ _ (none (j .before .before .before)) .engine) (c .run .ensures)
+    accepted _ _ _ _ _ _ (j .job-at .ensures) (passed _ _ _ _ _ (none (j .before .before .before)) .engine) (c .run .ensures)
 
 few : (c : tie.After-run) → let m = c .before .before .before in c .run .result .count ≤ min (m .before .before .before .before .before .args .request) (m .before .left-at .result)
 few c = let m = c .before .before .before in omega (arith, m .smaller .ensures, counted _ _ _ _ _ (ran c))
@@ -87,7 +88,7 @@ sub-rest : tie.Need-sub-rest
 sub-rest c = omega (arith, few (c .before .before))
 
 paid-requires : tie.Need-paid-requires
-paid-requires c κs = sector-passed _ (passed _ _ _ _ (none (c .before .before .before .before .before .before .before)) .there)
+paid-requires c κs = passed _ _ _ _ _ (none (c .before .before .before .before .before .before .before)) .there
 
 same-length-2 : tie.Need-same-length-2
 same-length-2 c = search needs

@@ -1,8 +1,10 @@
-//! Matrices that come early: they wait in the desk, and Fetch brings them in.
+//! Matrices that come early: they wait in the desk, and the operator's Fetch brings them in.
+use super::raw::{self, OPERATOR};
 use super::{busy, made_up, only, record_of, refused, room, Hub};
 use crate::lent::{at, equal_parts, mixed_matrix, Lent, MIXED_HEARD};
 use hubqr::Refusal::*;
-use hubqr::{ffi, Desk, Job, AREA_WORDS, MATRIX_RECORD_BYTES, RESULT_RECORD_BYTES, SECTORS};
+use hubqr::Role::{Operator, Viewer};
+use hubqr::{ffi, Desk, Job, AREA_WORDS, RESULT_RECORD_BYTES, SECTORS};
 
 /// A hub whose sector has all turns of the round.
 fn hub_for(sector: usize) -> Hub {
@@ -31,10 +33,10 @@ fn a_matrix_may_come_before_the_last_is_worked() {
         hub.run(sector, turn, turn);
         hub.keep(sector, &next);
         hub.run(sector, u16::MAX, 120 - turn);
-        assert_eq!(hub.desk.heard(sector as u32), Ok(0b0001_1111));
+        assert_eq!(hub.desk.heard(Viewer, sector as u32), Ok(0b0001_1111));
         hub.fetch(sector, &first);
         assert_eq!(hub.desk.jobs[sector], at(0, 0));
-        assert_eq!(hub.desk.heard(sector as u32), Ok(MIXED_HEARD));
+        assert_eq!(hub.desk.heard(Viewer, sector as u32), Ok(MIXED_HEARD));
         hub.begin();
         hub.run(sector, 120, 120);
         hub.fetch(sector, &next);
@@ -123,7 +125,7 @@ fn a_refused_matrix_takes_no_place() {
             hub.run(sector, turns, turns);
             let refuse = |record: &[u8], words: usize, with| {
                 let hand_in = |d: &mut Desk, l: &mut Lent| {
-                    d.hand_in(sector as u32, record, &mut l.area[..words])
+                    d.hand_in(Operator, sector as u32, record, &mut l.area[..words])
                 };
                 refused(&hub.desk, hand_in, with);
             };
@@ -148,7 +150,8 @@ fn a_refused_fetch_brings_nothing_in() {
             let mut desk = waiting(sector, 1, &next);
             desk.jobs[sector] = job;
             let fetch = |d: &mut Desk, l: &mut Lent| {
-                d.fetch(sector as u32, &mut l.area[..words], &mut l.buffer[..bytes])
+                let (area, buffer) = (&mut l.area[..words], &mut l.buffer[..bytes]);
+                d.fetch(Operator, sector as u32, area, buffer)
             };
             refused(&desk, fetch, with);
         };
@@ -172,7 +175,8 @@ fn a_matrix_is_brought_into_the_area_that_the_fetch_is_lent() {
         let (mut lent, mut loaded) = (Lent::new(), Lent::new());
         lent.area[..AREA_WORDS].copy_from_slice(&hub.lent[sector as usize].area[..AREA_WORDS]);
         hubqr::load(&next, &mut loaded.area).unwrap();
-        let fetched = hub.desk.fetch(sector, &mut lent.area, &mut lent.buffer);
+        let (area, buffer) = (&mut lent.area, &mut lent.buffer);
+        let fetched = hub.desk.fetch(Operator, sector, area, buffer);
         assert_eq!((fetched, lent.area), (Ok(()), loaded.area));
         assert_eq!(hub.lent[sector as usize], hub.alone[sector as usize]);
     }
@@ -190,7 +194,8 @@ fn whatever_waits_in_a_made_up_desk_is_brought_in() {
             let mut after = desk.clone();
             (after.jobs[sector], after.waits[sector]) = (at(0, 0), 0);
             after.heard[sector] = heard;
-            let fetched = desk.fetch(sector as u32, &mut area, &mut [0; RESULT_RECORD_BYTES]);
+            let buffer = &mut [0; RESULT_RECORD_BYTES];
+            let fetched = desk.fetch(Operator, sector as u32, &mut area, buffer);
             assert_eq!((fetched, &desk), (Ok(()), &after));
             assert_eq!(
                 (area[0], area[8]),
@@ -234,8 +239,9 @@ fn hand_ins_behind_jobs_that_are_none() {
         hub.desk.jobs[4] = at(turn, made);
         hub.keep(4, &mixed_matrix());
         hub.keep(4, &record_of(4));
-        refused(&hub.desk, |d, l| d.run(4, 1, &mut l.area), NoSuchJob);
-        let fetch = |d: &mut Desk, l: &mut Lent| d.fetch(4, &mut l.area, &mut l.buffer);
+        let run = |d: &mut Desk, l: &mut Lent| d.run(Operator, 4, 1, &mut l.area);
+        refused(&hub.desk, run, NoSuchJob);
+        let fetch = |d: &mut Desk, l: &mut Lent| d.fetch(Operator, 4, &mut l.area, &mut l.buffer);
         refused(&hub.desk, fetch, NoSuchJob);
         (hub.desk.jobs[4], hub.desk.waits[4]) = (at(120, 0), 0); // the host mends it
         hub.load(4, &record_of(4));
@@ -250,12 +256,7 @@ fn a_hand_in_that_waits_answers_what_stands() {
     for sector in 1..SECTORS {
         let mut due = busy();
         (due.jobs[sector], due.heard[sector]) = (at(33, 100), 0);
-        let (handed, words) = (due.clone(), area.as_mut_ptr());
-        // SAFETY: pointers and lengths are those of arrays.
-        let reply = unsafe {
-            let bytes = (record.as_ptr(), MATRIX_RECORD_BYTES);
-            ffi::hubqr_desk_hand_in(handed, sector as u32, bytes.0, bytes.1, words, AREA_WORDS)
-        };
+        let reply = raw::hand_in(OPERATOR, &due, sector as u32, &record, &mut area);
         due.waits[sector] = 1;
         room(&mut due, sector).copy_from_slice(&record);
         let due = ffi::DeskLoadReply {
