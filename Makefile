@@ -25,7 +25,7 @@ CFLAGS := -std=c11 -Wall -Wextra -Werror -pedantic -Iinclude
 CARGO := cargo --quiet
 SOURCES := crates.txt $(shell find crates -type f)
 TOOLS := build/cargo/release
-EXAMPLES := $(TOOLS)/instalments $(TOOLS)/snapshots $(TOOLS)/weights $(TOOLS)/desk
+EXAMPLES := $(TOOLS)/instalments $(TOOLS)/snapshots $(TOOLS)/weights $(TOOLS)/verify $(TOOLS)/desk
 # rt waits for each batch of its checks, and they are of unequal length: with two jobs for each processor it waits less.
 RT_JOBS ?= $(shell n=$$(nproc 2> /dev/null) || n=1; echo $$((2 * n)))
 export RT_JOBS
@@ -48,7 +48,8 @@ check-format: | need-rt need-rustfmt need-clippy
 check-tools check-c check-examples bench: | need-cc need-gcc
 check-tools check-c: | need-c++
 
-run: $(TOOLS)/record build/qr build/page
+# cargo is asked for ahead of the proofs, which take a while.
+run: need-cargo $(TOOLS)/record build/qr build/page
 	@sh examples/run.sh build/qr build/page $(TOOLS)/record build/result.bin
 
 # What takes seconds comes first. The proofs are made once, and what is tested after them is built from what they left. The last line is their
@@ -82,7 +83,8 @@ build/qr build/page: $(SOURCES)
 	@rt check $(@F) > $@.log 2>&1 || { cat $@.log; exit 1; }
 	@cp target/bin/$(@F) $@
 
-$(TOOLS)/record: FORCE
+# Its verdicts are those of the archive.
+$(TOOLS)/record: build/libhubqr.a FORCE
 	@$(CARGO) build --release -p record
 
 $(EXAMPLES): build/libhubqr.a FORCE
@@ -131,10 +133,12 @@ check-examples: build/libhubqr.a build/qr build/page $(EXAMPLES) $(TOOLS)/record
 	$(CC) $(CFLAGS) -O2 examples/instalments.c build/libhubqr.a -o build/instalments
 	$(CC) $(CFLAGS) -O2 examples/snapshots.c build/libhubqr.a -o build/snapshots
 	$(CC) $(CFLAGS) -O2 examples/weights.c build/libhubqr.a -o build/weights
+	$(CC) $(CFLAGS) -O2 examples/verify.c build/libhubqr.a -o build/verify
 	$(CC) $(CFLAGS) -O2 examples/desk.c build/libhubqr.a -o build/desk
 	sh examples/compare.sh build/instalments $(TOOLS)/instalments
 	sh examples/test-snapshots.sh build/snapshots $(TOOLS)/snapshots build/qr $(TOOLS)/record
 	sh examples/test-weights.sh build/weights $(TOOLS)/weights build/qr $(TOOLS)/record
+	sh examples/test-verify.sh build/verify $(TOOLS)/verify build/qr $(TOOLS)/record
 	sh examples/test-desk.sh build/desk $(TOOLS)/desk
 	sh examples/test-run.sh build/qr build/page $(TOOLS)/record
 

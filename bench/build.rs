@@ -25,7 +25,7 @@ const NARROW: Version = Version {
     sources: &["narrow.c", "wide.c", "calls.c"],
 };
 
-const VERSIONS: [Version; 7] = [
+const VERSIONS: [Version; 8] = [
     Version {
         name: "plain",
         options: &["-DROTATE=rotate_plain"],
@@ -55,6 +55,12 @@ const VERSIONS: [Version; 7] = [
         options: &["-I../include", "-ffp-contract=off"],
         processor: BASELINE,
         sources: &["weights.c"],
+    },
+    Version {
+        name: "verify",
+        options: &["-I../include"],
+        processor: BASELINE,
+        sources: &["verify.c"],
     },
     Version {
         name: "desk",
@@ -87,13 +93,16 @@ fn watch() {
     let others = [
         "name.h",
         "version.h",
+        "records.h",
         "covariance.h",
         "weights.h",
+        "verify.h",
         "desk.h",
         "../include/hubqr.h",
         "../include/hubqr_base.h",
         "../include/hubqr_covariance.h",
         "../include/hubqr_desk.h",
+        "../include/hubqr_verify.h",
         "../include/hubqr_weights.h",
         "double.h",
         "lapack.c",

@@ -1,15 +1,16 @@
 /*
  * Calls whose instructions count.sh counts. With the argument full: MATRICES random matrices by Load, Run and Fetch, and as many
- * others by Whole; the weights of the latter for random targets, and SNAPSHOTS random snapshots added and the sums written after
- * each, by the engine and by the versions in C. With the argument half-empty or diagonal: MATRICES such matrices by Whole. With
- * the argument single: MATRICES random matrices by Load and a Run of allowance 1 at each turn number. With the argument desk:
- * MATRICES Runs of request 0 and as many settings of shares, by the engine's desk and by that in C. With the argument loaded:
- * MATRICES hand-ins that are loaded, and as many Fetches while none waits, by both desks; with the argument waiting: as many
+ * others by Whole; the weights of the latter for random targets, the verdicts on them, and SNAPSHOTS random snapshots added and the
+ * sums written after each, by the engine and by the versions in C. With the argument half-empty or diagonal: MATRICES such matrices
+ * by Whole. With the argument single: MATRICES random matrices by Load and a Run of allowance 1 at each turn number. With the
+ * argument desk: MATRICES Runs of request 0 and as many settings of shares, by the engine's desk and by that in C. With the argument
+ * loaded: MATRICES hand-ins that are loaded, and as many Fetches while none waits, by both desks; with the argument waiting: as many
  * hand-ins that wait, and Fetches that bring one in.
  */
 #include "covariance.h"
 #include "desk.h"
-#include "hubqr.h"
+#include "records.h"
+#include "verify.h"
 #include "weights.h"
 
 #include <stdlib.h>
@@ -25,18 +26,6 @@ static void draw(void *bytes, size_t count)
         state = state * UINT64_C(6364136223846793005) + UINT64_C(1442695040888963407);
         ((uint8_t *)bytes)[k] = (uint8_t)(state >> 56);
     }
-}
-
-/* Whether an antenna is heard in a matrix record. */
-static int any_heard(const uint8_t *record)
-{
-    for (int k = 0; k < HUBQR_ANTENNAS; k++) {
-        const uint8_t *diagonal = record + 1 + 4 * (HUBQR_ANTENNAS * k + k);
-        if ((int16_t)(diagonal[0] << 8 | diagonal[1]) > HUBQR_HEARD_ABOVE) {
-            return 1;
-        }
-    }
-    return 0;
 }
 
 /* A matrix record with any parts. An antenna is heard in it, so that Load and Whole accept it. */
@@ -117,6 +106,14 @@ static int weighted(void)
     struct hubqr_weights_reply in_c = NAME(weights)(buffer, sizeof buffer, targets);
     return by_engine.number == HUBQR_ACCEPTED && in_c.number == HUBQR_ACCEPTED
         && memcmp(by_engine.weights, in_c.weights, sizeof in_c.weights) == 0;
+}
+
+/* Answers whether the engine and the version in C say yes to the record that was written, with its matrix record. */
+static int verified(const uint8_t *record)
+{
+    struct hubqr_verdict by_engine = hubqr_verify(record, HUBQR_MATRIX_RECORD_BYTES, buffer, sizeof buffer);
+    struct hubqr_verdict in_c = NAME(verify)(record, HUBQR_MATRIX_RECORD_BYTES, buffer, sizeof buffer);
+    return by_engine.number == HUBQR_ACCEPTED && by_engine.yes == 1 && in_c.number == HUBQR_ACCEPTED && in_c.yes == 1;
 }
 
 /* Answers whether the engine and the version in C accept everything and write the same record. */
@@ -228,7 +225,7 @@ static int all_calls(void)
             return 0;
         }
         draw_record(record);
-        if (!at_once(record) || !weighted()) {
+        if (!at_once(record) || !weighted() || !verified(record)) {
             return 0;
         }
     }

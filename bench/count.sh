@@ -13,11 +13,11 @@ snapshots=1000
 scratch=$(mktemp -d)
 trap 'rm -rf "$scratch"' EXIT
 # The versions in C are compiled as the benchmark compiles them. Only the weights have products and differences that could be fused.
-for version in covariance weights desk; do
+for version in covariance weights verify desk; do
     gcc -std=c11 -O3 -march=x86-64 -ffp-contract=off -Wall -Wextra -Iinclude -DVERSION=c -c bench/$version.c -o "$scratch/$version.o"
 done
 cc -std=c11 -O2 -Wall -Wextra -Iinclude -DMATRICES=$matrices -DSNAPSHOTS=$snapshots -DVERSION=c \
-    bench/count.c "$scratch/covariance.o" "$scratch/weights.o" "$scratch/desk.o" "$archive" -o "$scratch/count"
+    bench/count.c "$scratch/covariance.o" "$scratch/weights.o" "$scratch/verify.o" "$scratch/desk.o" "$archive" -o "$scratch/count"
 # What callgrind counts of matrices of each kind, of single turns and at the desk goes into a file of that name.
 for kind in full half-empty diagonal single desk loaded waiting; do
     valgrind --quiet --tool=callgrind --callgrind-out-file="$scratch/calls" "$scratch/count" $kind
@@ -51,7 +51,7 @@ awk -v matrices=$matrices -v snapshots=$snapshots -v style="${1:-plain}" '
         gsub(",", "", $1)
         count[name] = $1 / snapshots
     }
-    match($0, /(hubqr_weights|c_weights|(hubqr|c)_desk_(run|set_shares|hand_in|fetch))/) {
+    match($0, /(hubqr|c)_(weights|verify|desk_(run|set_shares|hand_in|fetch))/) {
         name = substr($0, RSTART, RLENGTH)
         if (name ~ /(hand_in|fetch)$/) name = name kind
         gsub(",", "", $1)
@@ -75,6 +75,7 @@ awk -v matrices=$matrices -v snapshots=$snapshots -v style="${1:-plain}" '
         compared("Adding a snapshot", count["hubqr_add_snapshot"], count["c_add_by_value"])
         compared("Writing the record", count["hubqr_write_matrix"], count["c_write_by_value"])
         compared("Weights", count["hubqr_weights"], count["c_weights"])
+        compared("Verify", count["hubqr_verify"], count["c_verify"])
         compared("Desk, request 0", count["hubqr_desk_run"], count["c_desk_run"])
         compared("Setting shares", count["hubqr_desk_set_shares"], count["c_desk_set_shares"])
         compared("Hand-in, loaded", count["hubqr_desk_hand_in, loaded"], count["c_desk_hand_in, loaded"])

@@ -1,6 +1,8 @@
 /* Rounds, shares and a sector's calls as the requests word them, with all their tests: first the tests, then the work. */
 #include "desk.h"
 
+#include "records.h"
+
 #include <string.h>
 
 struct hubqr_desk_reply NAME(desk_begin)(uint32_t role, struct hubqr_desk desk)
@@ -26,17 +28,6 @@ struct hubqr_desk_reply NAME(desk_set_shares)(uint32_t role, struct hubqr_desk d
     }
     memcpy(desk.shares, shares.shares, sizeof desk.shares);
     return (struct hubqr_desk_reply){desk, HUBQR_ACCEPTED};
-}
-
-static int any_heard(const uint8_t *record)
-{
-    for (int k = 0; k < 8; k++) {
-        const uint8_t *diagonal = record + 1 + 4 * (8 * k + k);
-        if ((int16_t)(diagonal[0] << 8 | diagonal[1]) > HUBQR_HEARD_ABOVE) {
-            return 1;
-        }
-    }
-    return 0;
 }
 
 static uint8_t hand_in_refusal(uint32_t role, uint32_t sector, const uint8_t *record, size_t record_len, size_t area_len)

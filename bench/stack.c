@@ -32,6 +32,7 @@ static struct {
     struct hubqr_read_reply read;
     struct hubqr_whole_reply whole;
     struct hubqr_add_reply add;
+    struct hubqr_verdict verdict;
     struct hubqr_weights_reply weights;
     struct hubqr_desk_reply desk;
     struct hubqr_desk_load_reply desk_load;
@@ -60,6 +61,7 @@ CALL(fetch, reply.number = hubqr_fetch(finished, area, HUBQR_AREA_WORDS, result,
 CALL(read_back, reply.read = hubqr_read(result, sizeof result, area, HUBQR_AREA_WORDS), reply.read.number)
 CALL(whole, reply.whole = hubqr_whole(record, sizeof record, area, HUBQR_AREA_WORDS, result, sizeof result),
      reply.whole.number)
+CALL(verify, reply.verdict = hubqr_verify(record, sizeof record, result, sizeof result), reply.verdict.number)
 CALL(none_added, sums = hubqr_sums_none(), HUBQR_ACCEPTED)
 CALL(add, reply.add = hubqr_add_snapshot(samples, sums), reply.add.number)
 CALL(write_matrix, reply.number = hubqr_write_matrix(reply.add.sums, record, sizeof record), reply.number)
@@ -96,6 +98,7 @@ static const struct {
     {"Fetch", fetch},
     {"Read", read_back},
     {"Whole", whole},
+    {"Verify", verify},
     {"Sums of none", none_added},
     {"Adding a snapshot", add},
     {"Writing the record", write_matrix},

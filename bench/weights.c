@@ -4,30 +4,7 @@
  */
 #include "weights.h"
 
-enum { SIZE = 2 * HUBQR_ANTENNAS };
-
-/* Word (i, j) of R, or of Q transposed, of which these are the bytes. */
-static int32_t word(const uint8_t *bytes, int i, int j)
-{
-    bytes += 4 * (SIZE * i + j);
-    return (int32_t)((uint32_t)bytes[0] << 24 | (uint32_t)bytes[1] << 16 | (uint32_t)bytes[2] << 8 | bytes[3]);
-}
-
-/* Whether R is upper triangular and its first 15 diagonal words are not negative. */
-static int keeps_rule(const uint8_t *r)
-{
-    for (int i = 0; i < SIZE; i++) {
-        for (int j = 0; j < i; j++) {
-            if (word(r, i, j) != 0) {
-                return 0;
-            }
-        }
-        if (i < SIZE - 1 && word(r, i, i) < 0) {
-            return 0;
-        }
-    }
-    return 1;
-}
+#include "records.h"
 
 static int has_zero(const uint8_t *r)
 {

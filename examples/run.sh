@@ -23,7 +23,8 @@ echo
 "$record" show "$result"
 echo
 echo '3. Is it right? From the two records alone, in exact whole numbers: Q times R has to be the input,'
-echo "   the rows of Q orthogonal, and the products of R's columns those of the input's."
+echo '   and the rows of Q orthogonal. The last line is the answer of the proved call, hubqr_verify. For'
+echo "   results of qr, the products of R's columns are those of the input's as well."
 echo "   $ $record check $sample $result"
 echo
 "$record" check "$sample" "$result"

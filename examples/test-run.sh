@@ -21,7 +21,8 @@ for text in '1. What a hub heard' '2. What the proved program makes of it' '3. I
     grep -q -F -e "$text" "$scratch/shown" || fail "make run does not print '$text'"
     passed=$((passed + 1))
 done
-grep -q -x -F 'all within their limits' "$scratch/shown" || fail "make run does not print the verdict"
+grep -q -x -F 'yes: Q times R and the rows of Q are within their limits' "$scratch/shown" || fail "make run does not print the verdict"
+grep -q OUTSIDE "$scratch/shown" && fail "make run shows a figure outside its limit"
 grep -q '^ *7 *-26387-19427i  *-4\.859' "$scratch/shown" || fail "make run does not print the weight of antenna 7"
 tail -n 16 "$scratch/shown" >"$scratch/page"
 cut -c 1-96 examples/results/hermitian.txt | cmp - "$scratch/page" || fail "make run does not end in the page of the result"
@@ -30,6 +31,6 @@ cut -c 1-96 examples/results/hermitian.txt | cmp - "$scratch/page" || fail "make
 printf '#!/bin/sh\nexec "%s" < "%s"\n' "$PWD/$qr" "$PWD/examples/records/extremes.bin" >"$scratch/wrong"
 chmod +x "$scratch/wrong"
 sh examples/run.sh "$scratch/wrong" "$page" "$record" "$scratch/result" >"$scratch/shown" 2>&1 && fail "make run takes the result of another record"
-[ "$(tail -n 1 "$scratch/shown")" = 'not all within their limits' ] || fail "make run does not say that a result is wrong"
+[ "$(tail -n 1 "$scratch/shown")" = 'no: Q times R or the rows of Q are outside their limits' ] || fail "make run does not say that a result is wrong"
 passed=$((passed + 1))
 echo "run: $passed checks passed"

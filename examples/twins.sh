@@ -29,11 +29,12 @@ check() {
     passed=$((passed + 1))
 }
 
-# check_full ARGUMENT...: both programs end with status 1 and say so when their output cannot be written.
+# check_full ARGUMENT...: both programs end with status 1, or what the script has set `unwritten` to, and say so when their output cannot be written.
+unwritten=1
 check_full() {
     for program in "$c_program" "$rust_program"; do
         "$program" "$@" >/dev/full 2>"$scratch/full.err"
-        [ $? = 1 ] || fail "$program does not end with status 1 on a full device"
+        [ $? = "$unwritten" ] || fail "$program does not end with status $unwritten on a full device"
         grep -q -F 'standard output: ' "$scratch/full.err" || fail "$program does not report a full device"
     done
     passed=$((passed + 1))

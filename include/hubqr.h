@@ -12,6 +12,8 @@
  *   Later on:        hubqr_read brings a result record back into an area.
  *   For weights:     hubqr_weights.h, which this header includes as well, works out from a result record what the antennas are
  *                    weighted with.
+ *   For boards:      hubqr_verify.h, which this header also includes, says yes or no to a result record for a matrix, whether a
+ *                    board that factors by itself wrote it or one of the calls here.
  *   For sectors:     hubqr_desk.h, which this header includes too, serves eight sectors, each with an area and a share of its
  *                    own of the turns of a round, 120 at most. The next matrix of a sector may be handed in early. Each call is
  *                    made for a role: a viewer is answered the heard byte and nothing else, a fitter gets the result record too,
@@ -75,11 +77,12 @@
  *   may share a record, since records are only read. While a call lasts nobody else may write to what it was lent.
  *
  * Aliasing
- *   The record, the area and the buffer that are lent to a call may not overlap each other.
+ *   The record, the area and the buffer that are lent to a call may not overlap each other. The two records that hubqr_verify is
+ *   lent may, since nothing is written.
  *
  * Null
- *   `record`, `area` and `buffer` may be null exactly when their length is 0; nothing is then read or written through them and
- *   the call is refused.
+ *   A record, an area and a buffer may be null exactly when their length is 0; nothing is then read or written through the
+ *   pointer and the call is refused.
  *
  * Lengths
  *   Lengths are true lengths: bytes for records and buffers, words for areas. An area may be longer than HUBQR_AREA_WORDS and a
@@ -97,6 +100,7 @@
 #include "hubqr_base.h"
 #include "hubqr_covariance.h"
 #include "hubqr_desk.h"
+#include "hubqr_verify.h"
 #include "hubqr_weights.h"
 
 /* An antenna is heard when its real part on the diagonal is above this: a loose plug leaves a part of one or two. */

@@ -32,10 +32,10 @@ stops() {
     esac
 }
 
-for target in prove build/libhubqr.a build/qr build/page check-tools; do
+for target in prove build/libhubqr.a build/qr build/page build/cargo/release/record check-tools; do
     stops "$target" 'rt is not installed: '
 done
-for target in run check-format check-docs demands build/cargo/release/record; do
+for target in run check-format check-docs demands; do
     stops "$target" 'cc is not installed: it is what Rust links programs with'
 done
 printf '#!/bin/sh\n' >"$scratch/bin/cc"

@@ -1,10 +1,12 @@
 //! An earlier archive of the engine, whose calls `build.rs` gave other names.
 
-use hubqr::ffi::{AddReply, LoadReply, RunReply, Snapshot, Sums, WeightsReply, WholeReply};
+use hubqr::ffi::{AddReply, LoadReply, RunReply, Snapshot, Sums};
+use hubqr::ffi::{Verdict, WeightsReply, WholeReply};
 use hubqr::Job;
 
 use crate::contenders::{Area, Buffer, Clamps, Contender, Record, FINISHED};
 use crate::covariance::implementations::ByValue;
+use crate::verify::contenders::Contender as VerifyContender;
 use crate::weights::contenders::Contender as WeightsContender;
 
 extern "C" {
@@ -38,6 +40,12 @@ extern "C" {
         record_len: usize,
         targets: Snapshot,
     ) -> WeightsReply;
+    fn earlier_hubqr_verify(
+        matrix: *const u8,
+        matrix_len: usize,
+        result: *const u8,
+        result_len: usize,
+    ) -> Verdict;
 }
 
 pub const CONTENDER: Contender = Contender {
@@ -57,6 +65,13 @@ pub const WEIGHTS: WeightsContender = WeightsContender {
     name: "engine, earlier",
     weights: |record, targets| unsafe {
         earlier_hubqr_weights(record.as_ptr(), record.len(), targets)
+    },
+};
+
+pub const VERIFY: VerifyContender = VerifyContender {
+    name: "engine, earlier",
+    verify: |matrix, result| unsafe {
+        earlier_hubqr_verify(matrix.as_ptr(), matrix.len(), result.as_ptr(), result.len())
     },
 };
 

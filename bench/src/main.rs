@@ -15,11 +15,13 @@ mod measure;
 mod norms;
 mod options;
 mod report;
+mod results;
 mod rounds;
 mod stats;
 mod table;
 mod timed;
 mod times;
+mod verify;
 mod versions;
 mod weights;
 
@@ -53,6 +55,7 @@ fn main() -> ExitCode {
     print(&options, &rounds::measured(rounds, seed));
     print_covariance(&options, &covariance::rounds::measured(rounds, seed));
     print_weights(&options, &weights::rounds::measured(rounds, seed));
+    print_verify(&options, &verify::rounds::measured(rounds, seed));
     print_desk(&options, &desk::rounds::measured(rounds, seed));
     ExitCode::SUCCESS
 }
@@ -71,6 +74,9 @@ fn agree(seed: u64) -> Result<(), String> {
         contender.check(seed)?;
     }
     for contender in weights::contenders::all() {
+        contender.check(seed)?;
+    }
+    for contender in verify::contenders::all() {
         contender.check(seed)?;
     }
     for contender in desk::contenders::desks() {
@@ -113,6 +119,13 @@ fn print_weights(options: &Options, results: &weights::rounds::Results) {
     let spreads = weights::report::spreads(results);
     section(options, "Nine of ten rounds of weights", spreads);
     println!("{}\n", weights::report::words(results));
+}
+
+fn print_verify(options: &Options, results: &verify::rounds::Results) {
+    section(options, "Verify", verify::report::everyone(results));
+    let spreads = verify::report::spreads(results);
+    section(options, "Nine of ten rounds of Verify", spreads);
+    println!("{}\n", verify::report::words(results));
 }
 
 fn print_desk(options: &Options, results: &desk::rounds::Results) {

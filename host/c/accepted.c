@@ -1,5 +1,6 @@
 /* Accepted input: replies, every word and byte that a call writes, and the guards behind them. */
 #include "check.h"
+#include "words.h"
 
 #include <stdlib.h>
 #include <string.h>
@@ -165,14 +166,6 @@ static void test_clamps(void)
     clamp_columns("Run of a large last column of R", 15, 16, 1, 0);
     clamp_columns("Run of a large first column of Q", 16, 17, 0, 1);
     clamp_columns("Run of large columns before the leading one", 0, 14, 0, 0);
-}
-
-/* The word that stands in a result record at place k, R first and then Q transposed. */
-static int32_t recorded(const uint8_t *record, int k)
-{
-    const uint8_t *at = record + 1 + 4 * k;
-    int64_t value = (int64_t)at[0] << 24 | at[1] << 16 | at[2] << 8 | at[3];
-    return (int32_t)(value > INT32_MAX ? value - (INT64_C(1) << 32) : value);
 }
 
 static void test_fetch(void)

@@ -54,6 +54,8 @@ void test_heard(void);
 void test_refused(void);
 void test_covariance(void);
 void test_weights(void);
+void test_limits(void);
+void test_verify(void);
 void test_desk(void);
 void test_hand_in(void);
 void test_desk_refused(void);

@@ -61,6 +61,10 @@ SIZE(hubqr_weights_reply, 136);
 PLACE(hubqr_weights_reply, number, 0);
 PLACE(hubqr_weights_reply, weights, 8);
 
+SIZE(hubqr_verdict, 2);
+PLACE(hubqr_verdict, number, 0);
+PLACE(hubqr_verdict, yes, 1);
+
 static_assert(HUBQR_VIEWER == 0, "the viewer's number");
 static_assert(HUBQR_FITTER == 1, "the fitter's number");
 static_assert(HUBQR_OPERATOR == 2, "the operator's number");

@@ -108,6 +108,24 @@ static bool weighted()
            zero.number == HUBQR_ZERO_DIAGONAL && zero.weights[2].im == 0;
 }
 
+// The matrix has nothing but one half at (0, 0). What Whole writes gets yes. R(0, 0) that is 8 steps too large gets no, and the
+// matrix in the place of the result is refused.
+static bool verified()
+{
+    record.fill(0);
+    record[0] = HUBQR_KIND_MATRIX;
+    record[1] = 0x40;
+    auto factored = hubqr_whole(record.data(), record.size(), area.data(), area.size(), buffer.data(), buffer.size());
+    auto right = hubqr_verify(record.data(), record.size(), buffer.data(), buffer.size());
+    buffer[2] ^= 1; // R(0, 0) is 2^27 + 2^16
+    auto wrong = hubqr_verify(record.data(), record.size(), buffer.data(), buffer.size());
+    auto same = hubqr_verify(record.data(), record.size(), record.data(), record.size());
+    auto none = hubqr_verify(record.data(), record.size(), nullptr, 0);
+    return factored.number == HUBQR_ACCEPTED && right.number == HUBQR_ACCEPTED && right.yes == 1 &&
+           wrong.number == HUBQR_ACCEPTED && wrong.yes == 0 && same.number == HUBQR_WRONG_KIND && same.yes == 0 &&
+           none.number == HUBQR_WRONG_KIND && none.yes == 0;
+}
+
 // A sector works through rounds by its share. The matrix has nothing but (17, 0) at (0, 0), so that its turns are skipped, and
 // paid.
 static bool served()
@@ -229,7 +247,7 @@ static bool by_role()
 int main()
 {
     bool named = hubqr_version() == HUBQR_VERSION && hubqr_refusal_words(HUBQR_ACCEPTED) == std::string_view("accepted");
-    bool calls = accepted() && in_instalments() && clamped() && refused() && covariance() && weighted();
+    bool calls = accepted() && in_instalments() && clamped() && refused() && covariance() && weighted() && verified();
     bool holds = calls && served() && early() && turned_away() && shared_out() && by_role() && named;
     std::puts(holds ? "hubqr C++ face: passed" : "hubqr C++ face: FAILED");
     return holds ? 0 : 1;

@@ -15,6 +15,8 @@ int main(void)
     test_refused();
     test_covariance();
     test_weights();
+    test_limits();
+    test_verify();
     test_desk();
     test_hand_in();
     test_desk_refused();

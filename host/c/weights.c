@@ -1,5 +1,6 @@
 /* Weights: those worked out by hand, to the bit, those of a matrix that was factored, and each refusal. */
 #include "check.h"
+#include "words.h"
 
 #include <stdlib.h>
 #include <string.h>
@@ -15,24 +16,6 @@ static double due[PARTS];
 /* 8192 / 3, which is rounded down: 3 times that is 2^-41 less than 8192, half a step there, and is rounded to 8192. */
 static const double third = 0x1.5555555555555p+11;
 
-/* Where word (i, j) of R and of Q transposed stands in the record, counted in words. */
-static int r(int i, int j)
-{
-    return PARTS * i + j;
-}
-
-static int qt(int i, int j)
-{
-    return PARTS * (PARTS + i) + j;
-}
-
-static void set_word(int k, int32_t word)
-{
-    for (int n = 0; n < 4; n++) {
-        record[1 + 4 * k + n] = (uint8_t)((uint32_t)word >> (24 - 8 * n));
-    }
-}
-
 /* A record with 3 on R's diagonal and one on Q's. A target part of 1 makes 2^30 / 131072 = 8192, and 8192 / 3 in the weights. */
 static void begin(void)
 {
@@ -40,8 +23,8 @@ static void begin(void)
     memset(target, 0, sizeof target);
     record[0] = HUBQR_KIND_RESULT;
     for (int n = 0; n < PARTS; n++) {
-        set_word(r(n, n), 3);
-        set_word(qt(n, n), HUBQR_Q_ONE);
+        set_word(record, r(n, n), 3);
+        set_word(record, qt(n, n), HUBQR_Q_ONE);
         due[n] = 0.0;
     }
 }
@@ -105,8 +88,8 @@ static void test_words_of_q(void)
     for (int i = 0; i < PARTS; i++) {
         for (int j = 0; j < PARTS; j++) {
             begin();
-            set_word(qt(j, j), 0);
-            set_word(qt(i, j), -HUBQR_Q_ONE);
+            set_word(record, qt(j, j), 0);
+            set_word(record, qt(i, j), -HUBQR_Q_ONE);
             target[j] = 1;
             due[i] = -third;
             accept("a word of Q transposed");
@@ -120,12 +103,12 @@ static void test_words_of_r(void)
     for (int i = 0; i < PARTS; i++) {
         for (int j = i + 1; j < PARTS; j++) {
             begin();
-            set_word(r(i, j), 3);
+            set_word(record, r(i, j), 3);
             target[j] = 1;
             due[j] = third;
             due[i] = -third;
             accept("a word of R above the diagonal");
-            set_word(r(i, j), -3);
+            set_word(record, r(i, j), -3);
             due[i] = third;
             accept("a negative word of R above the diagonal");
         }
@@ -137,15 +120,15 @@ static void test_right_sums(void)
 {
     for (int n = 0; n < PARTS; n++) {
         begin();
-        set_word(r(n, n), 1);
-        set_word(qt(n, n), 1);
+        set_word(record, r(n, n), 1);
+        set_word(record, qt(n, n), 1);
         target[n] = 1;
         due[n] = 0x1p-17;
         accept("a sum of 1");
         target[n] = -1;
         due[n] = -0x1p-17;
         accept("a sum of -1");
-        set_word(qt(n, n), INT32_MAX);
+        set_word(record, qt(n, n), INT32_MAX);
         target[n] = 32767;
         due[n] = 0x3fff7fff8001p-17;
         accept("an odd sum of 46 bits");
@@ -159,8 +142,8 @@ static void test_right_sums(void)
 static void test_order(void)
 {
     begin();
-    set_word(r(13, 14), 3);
-    set_word(r(13, 15), 1);
+    set_word(record, r(13, 14), 3);
+    set_word(record, r(13, 15), 1);
     target[13] = target[14] = target[15] = 1;
     due[14] = due[15] = third;
     due[13] = -0x1.c71c71c71c71cp+9;
@@ -172,7 +155,7 @@ static void test_quotient(void)
 {
     for (int n = 0; n < PARTS; n++) {
         begin();
-        set_word(r(n, n), 49);
+        set_word(record, r(n, n), 49);
         target[n] = 49;
         due[n] = 8192.0;
         accept("divided, not multiplied by a reciprocal");
@@ -183,11 +166,11 @@ static void test_quotient(void)
 static void test_negative_diagonal(void)
 {
     begin();
-    set_word(r(15, 15), -3);
-    set_word(r(0, 15), 5);
+    set_word(record, r(15, 15), -3);
+    set_word(record, r(0, 15), 5);
     due[15] = -0.0;
     accept("diagonal word 15 negative, targets of 0");
-    set_word(r(0, 15), -3);
+    set_word(record, r(0, 15), -3);
     target[15] = 1;
     due[15] = due[0] = -third;
     accept("diagonal word 15 negative, a target part of 1");
@@ -202,8 +185,8 @@ static void test_largest(void)
     begin();
     for (int k = 0; k < PARTS * PARTS; k++) {
         int row = k / PARTS, column = k % PARTS;
-        set_word(k, column < row ? 0 : column == row ? 1 : INT32_MIN);
-        set_word(qt(row, column), INT32_MIN);
+        set_word(record, k, column < row ? 0 : column == row ? 1 : INT32_MIN);
+        set_word(record, qt(row, column), INT32_MIN);
         target[column] = -32768;
     }
     struct hubqr_weights_reply reply = answered("largest words", record, HUBQR_RESULT_RECORD_BYTES, HUBQR_ACCEPTED);
@@ -274,7 +257,7 @@ static void test_header(void)
     make_matrix(matrix);
     for (int diagonal = 0; diagonal <= 3; diagonal += 3) {
         begin();
-        set_word(r(7, 7), diagonal);
+        set_word(record, r(7, 7), diagonal);
         target[0] = 1;
         refuse("a null record", NULL, 0, HUBQR_WRONG_KIND);
         refuse("an empty record", record, 0, HUBQR_WRONG_KIND);
@@ -299,9 +282,9 @@ static void test_not_triangular(void)
         }
         begin();
         target[0] = 1;
-        set_word(k, column < row ? 1 : -1);
+        set_word(record, k, column < row ? 1 : -1);
         refuse("a word of R that may not be", record, HUBQR_RESULT_RECORD_BYTES, HUBQR_NOT_TRIANGULAR);
-        set_word(r(15, 15), 0);
+        set_word(record, r(15, 15), 0);
         refuse("such a word and a diagonal word of 0", record, HUBQR_RESULT_RECORD_BYTES, HUBQR_NOT_TRIANGULAR);
     }
 }
@@ -312,9 +295,9 @@ static void test_zero_diagonal(void)
     for (int n = 0; n < PARTS; n++) {
         begin();
         target[0] = 1;
-        set_word(r(n, n), 0);
+        set_word(record, r(n, n), 0);
         refuse("a diagonal word of 0", record, HUBQR_RESULT_RECORD_BYTES, HUBQR_ZERO_DIAGONAL);
-        set_word(r(0, 15), 1);
+        set_word(record, r(0, 15), 1);
         refuse("a diagonal word of 0 and one above it", record, HUBQR_RESULT_RECORD_BYTES, HUBQR_ZERO_DIAGONAL);
     }
     memset(record + 1, 0, sizeof record - 1);

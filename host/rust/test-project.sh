@@ -26,7 +26,7 @@ block() {
     awk -v start="\`\`\`$1" '$0 == start { on = 1; next } /^```/ { on = 0 } on' README.md
 }
 
-# project FOLDER: writes a project with README's lines, which factors a sample record and works out weights.
+# project FOLDER: writes a project with README's lines, which factors a sample record, works out weights and verifies the result.
 project() {
     mkdir -p "$1/src"
     {
@@ -38,7 +38,7 @@ project() {
         echo "let record = std::fs::read(\"$top/examples/records/hermitian.bin\").unwrap();"
         echo 'let targets = [hubqr::Sample { re: 16384, im: 0 }; hubqr::ANTENNAS];'
         block rust
-        echo 'println!("kind {}, all heard: {all_heard}, weights: {}", result[0], weights.len());'
+        echo 'println!("kind {}, all heard: {all_heard}, weights: {}, right: {right}", result[0], weights.len());'
         echo 'Ok(())'
         echo '}'
     } >"$1/src/main.rs"
@@ -56,7 +56,7 @@ run() {
 works() {
     what=$1
     shift
-    run "$@" && [ "$(cat "$beside/output")" = 'kind 2, all heard: true, weights: 8' ] || fail "a project $what does not work"
+    run "$@" && [ "$(cat "$beside/output")" = "$printed" ] || fail "a project $what does not work"
     passed=$((passed + 1))
 }
 
@@ -70,6 +70,7 @@ says() {
 }
 
 ln -s "$top" "$beside/yuzhattim" || exit 1
+printed='kind 2, all heard: true, weights: 8, right: true'
 project "$beside/hub"
 mkdir "$beside/archive" "$beside/empty"
 cp build/libhubqr.a "$beside/archive/"
@@ -84,4 +85,11 @@ project "$inside"
 sed "s,\"../yuzhattim/host/rust\",\"$top/host/rust\"," "$inside/Cargo.toml" >"$beside/manifest"
 { cat "$beside/manifest" && printf '\n[workspace]\n'; } >"$inside/Cargo.toml"
 works 'inside of the repository' "$inside"
+
+# A project that wants the words of refusals and no call has the archive left out.
+project "$beside/words"
+sed 's," }$,"\, default-features = false },' "$beside/hub/Cargo.toml" >"$beside/words/Cargo.toml"
+echo 'fn main() { println!("{}", hubqr::Refusal::NoneHeard.number()) }' >"$beside/words/src/main.rs"
+printed=4
+works 'without the archive' "$beside/words" "HUBQR_LIB_DIR=$beside/empty"
 echo "project: $passed checks passed"

@@ -9,6 +9,10 @@ pub const BOUND: i128 = 1 << 44;
 /// The bound on R's diagonal word 0, whose square has the bound above: 2^22.
 pub const WORD_BOUND: i128 = 1 << 22;
 
+/// By how much sums differ from what they should be, over all pairs of rows, of columns, or of a row
+/// and a column.
+pub type Differences = [[i128; REAL_SIZE]; REAL_SIZE];
+
 /// The largest errors over all places of a worked matrix.
 #[derive(Debug, Clone, Copy, Default, PartialEq, Eq)]
 pub struct Errors {
@@ -26,21 +30,12 @@ pub struct Errors {
 impl Errors {
     /// The errors of the R and Q that an area holds for an input made real.
     pub fn of(input: &RealMatrix, area: &WorkArea) -> Self {
-        let mut errors = Errors {
+        Errors {
+            product: largest(&product_differences(input, area)),
+            rows: largest(&rows_differences(area)),
+            columns: largest(&columns_differences(input, area)),
             first_word: first_word_error(input, area),
-            ..Errors::default()
-        };
-        for i in 0..REAL_SIZE {
-            for j in 0..REAL_SIZE {
-                errors = errors.max(Errors {
-                    product: product_error(input, area, i, j),
-                    rows: rows_error(area, i, j),
-                    columns: columns_error(input, area, i, j),
-                    ..errors
-                });
-            }
         }
-        errors
     }
 
     /// The larger of each error.
@@ -65,21 +60,42 @@ impl Errors {
     }
 }
 
-fn product_error(input: &RealMatrix, area: &WorkArea, i: usize, j: usize) -> i128 {
-    let sum = sum_of_products(|k| (area.q(i, k), area.r(k, j)));
-    (sum - (i128::from(input[i][j]) << 43)).abs()
+/// Entries of Q times R, less 2^43 times the input's.
+pub fn product_differences(input: &RealMatrix, area: &WorkArea) -> Differences {
+    differences(|i, j| {
+        let sum = sum_of_products(|k| (area.q(i, k), area.r(k, j)));
+        sum - (i128::from(input[i][j]) << 43)
+    })
 }
 
-fn rows_error(area: &WorkArea, i: usize, j: usize) -> i128 {
-    let sum = sum_of_products(|k| (area.q(i, k), area.q(j, k)));
-    let exact = if i == j { 1 << 60 } else { 0 };
-    (sum - exact).abs()
+/// Sums of products of two rows of Q, less 2^60 for a row with itself.
+pub fn rows_differences(area: &WorkArea) -> Differences {
+    differences(|i, j| {
+        let sum = sum_of_products(|k| (area.q(i, k), area.q(j, k)));
+        sum - if i == j { 1 << 60 } else { 0 }
+    })
 }
 
-fn columns_error(input: &RealMatrix, area: &WorkArea, i: usize, j: usize) -> i128 {
-    let sum = sum_of_products(|k| (area.r(k, i), area.r(k, j)));
-    let exact = sum_of_products(|k| (input[k][i], input[k][j])) << 26;
-    (sum - exact).abs()
+/// Sums of products of two columns of R, less 2^26 times the input's.
+fn columns_differences(input: &RealMatrix, area: &WorkArea) -> Differences {
+    differences(|i, j| {
+        let sum = sum_of_products(|k| (area.r(k, i), area.r(k, j)));
+        let exact = sum_of_products(|k| (input[k][i], input[k][j])) << 26;
+        sum - exact
+    })
+}
+
+fn differences(at: impl Fn(usize, usize) -> i128) -> Differences {
+    std::array::from_fn(|i| std::array::from_fn(|j| at(i, j)))
+}
+
+/// The largest of all differences, whichever way they are.
+pub fn largest(differences: &Differences) -> i128 {
+    let sizes = differences
+        .iter()
+        .flatten()
+        .map(|difference| difference.abs());
+    sizes.max().expect("there are 256 of them")
 }
 
 /// A length is a square root, so the whole numbers on either side of it are compared.
@@ -132,6 +148,22 @@ mod tests {
         // 2^13 times the root of 2 is 11,585.2
         assert_eq!([11_585, 11_586].map(|word| error(1, 1, word)), [1, 1]);
         assert_eq!([11_580, 11_590].map(|word| error(1, 1, word)), [6, 5]);
+    }
+
+    #[test]
+    fn differences_have_a_sign_and_a_place() {
+        let input = Matrix::from_fn(|_, _| Complex::ZERO).to_real();
+        let mut area = WorkArea::loaded(&input);
+        area.set_word(4, 9, -3);
+        area.set_word(2, 16 + 7, -5);
+        let mut due = [[0; REAL_SIZE]; REAL_SIZE];
+        due[4][9] = -3 * i128::from(ONE);
+        assert_eq!(product_differences(&input, &area), due);
+        let mut due = [[0; REAL_SIZE]; REAL_SIZE];
+        (due[2][7], due[7][2]) = (-5 * i128::from(ONE), -5 * i128::from(ONE));
+        due[7][7] = 25;
+        assert_eq!(rows_differences(&area), due);
+        assert_eq!(largest(&due), 5 * i128::from(ONE));
     }
 
     #[test]

@@ -140,7 +140,7 @@ pub(crate) fn lent_area(area: &mut [i32]) -> Result<&mut [i32; AREA_WORDS], Refu
 }
 
 /// Test 4.
-fn test_heard(matrix: &Matrix) -> Result<(), Refusal> {
+pub(crate) fn test_heard(matrix: &Matrix) -> Result<(), Refusal> {
     if matrix.none_heard() {
         Err(Refusal::NoneHeard)
     } else {

@@ -7,9 +7,10 @@
 //!
 //! [`calls`] has the five calls of the factorization, [`job`] what a host hands from one to the
 //! next, [`covariance`] the three that make a matrix record of snapshots, [`weights`] the one that
-//! solves for weights, and [`desk`] those for the eight sectors of a hub, each of which is made in a
-//! [`role`]. [`accuracy`] has the exact errors of a worked matrix, [`cases`] and [`random`] the test
-//! matrices. [`listing`], [`program`] and [`page`] say what the programs have to write.
+//! solves for weights, [`verify`] the one that says yes or no to a result, and [`desk`] those for the
+//! eight sectors of a hub, each of which is made in a [`role`]. [`accuracy`] has the exact errors of a
+//! worked matrix, [`cases`] and [`random`] the test matrices. [`listing`], [`program`] and [`page`] say
+//! what the programs have to write.
 
 pub mod accuracy;
 pub mod area;
@@ -29,4 +30,5 @@ pub mod replies;
 pub mod role;
 pub mod rotation;
 pub mod schedule;
+pub mod verify;
 pub mod weights;

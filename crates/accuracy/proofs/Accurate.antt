@@ -53,15 +53,22 @@ module _ (rec : List ℕ) where
       sum-one 16 (λ r. loadedAt rec r (16 + i) *ℤ loadedAt rec r c) i h (λ r q d. ap (λ x. x *ℤ loadedAt rec r c) (off-identity r i d) ∙ zero-*ℤ (loadedAt rec r c))
       ∙ ap (λ x. x *ℤ loadedAt rec i c) (on-identity i)
 
-  gram-product : (i j : ℕ) → i < 16 → j < 16 → gram (loadedAt rec) (16 + i) j ≡ pos (2 ^ 43) *ℤ realEntry rec i j
-  gram-product i j h k = gram-beside i j h ∙ ap (λ x. pos (2 ^ 30) *ℤ x) (in-matrix i j k) ∙ sym (*ℤ-assoc (pos (2 ^ 30)) (pos (2 ^ 13)) (realEntry rec i j))
+  -- 2^30 times a loaded word is what its sum should be
+  pub loaded-product : (i j : ℕ) → j < 16 → pos (2 ^ 30) *ℤ loadedAt rec i j ≡ pos (2 ^ 43) *ℤ realEntry rec i j
+  loaded-product i j k = ap (λ x. pos (2 ^ 30) *ℤ x) (in-matrix i j k) ∙ sym (*ℤ-assoc (pos (2 ^ 30)) (pos (2 ^ 13)) (realEntry rec i j))
 
-  gram-identity : (i j : ℕ) → i < 16 → gram (loadedAt rec) (16 + i) (16 + j) ≡ cond (eqb i j) (pos (2 ^ 60)) (pos 0)
-  gram-identity i j h = gram-beside i (16 + j) h ∙ ap (λ x. pos (2 ^ 30) *ℤ x) (beside i j) ∙ either (eqb i j)
+  pub loaded-identity : (i j : ℕ) → pos (2 ^ 30) *ℤ loadedAt rec i (16 + j) ≡ cond (eqb i j) (pos (2 ^ 60)) (pos 0)
+  loaded-identity i j = ap (λ x. pos (2 ^ 30) *ℤ x) (beside i j) ∙ either (eqb i j)
     where
       either : (b : Bool) → pos (2 ^ 30) *ℤ cond b (pos (2 ^ 30)) (pos 0) ≡ cond b (pos (2 ^ 60)) (pos 0)
       either true = refl
       either false = refl
+
+  gram-product : (i j : ℕ) → i < 16 → j < 16 → gram (loadedAt rec) (16 + i) j ≡ pos (2 ^ 43) *ℤ realEntry rec i j
+  gram-product i j h k = gram-beside i j h ∙ loaded-product i j k
+
+  gram-identity : (i j : ℕ) → i < 16 → gram (loadedAt rec) (16 + i) (16 + j) ≡ cond (eqb i j) (pos (2 ^ 60)) (pos 0)
+  gram-identity i j h = gram-beside i (16 + j) h ∙ loaded-identity i j
 
   gram-columns : (i j : ℕ) → i < 16 → j < 16 → gram (loadedAt rec) i j ≡ pos (2 ^ 26) *ℤ gram (realEntry rec) i j
   gram-columns i j h k = sum-equal 16 scaled ∙ sum-times 16 (pos (2 ^ 26)) (λ r. realEntry rec r i *ℤ realEntry rec r j)

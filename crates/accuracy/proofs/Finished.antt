@@ -1,13 +1,13 @@
 -- The R of a matrix that is worked to the end passes test 8. Assumes nothing.
 use mathlib.Core.Path.{_≡_, refl}
 use mathlib.Core.Bool.{Bool, true, false, cond}
-use Prim.Native.Nat.{ℕ, _/_, _%_, _<_}
+use Prim.Native.Nat.{ℕ, _<_}
 use native.Mathlib.Decide.{ℕ-discrete, decLt}
 use native.Mathlib.Omega.{arith}
 use lib.Dec.{T, ltb, eqb}
 use borrow.Author.Tests.{lt-ltb, le-ltb, eq-eqb, ne-eqb}
 use lib.Signed.{nonNeg, yes-nonNeg}
-use Rattle.lists.proofs.Passing.{all-of}
+use Rattle.lists.proofs.Passing.{pairs-of}
 use Rattle.integers.specs.Matrix.{Matrix, isZero}
 use Rattle.result_record.specs.ResultRecord.{isFinishedAt, isFinished}
 use Rattle.accuracy.specs.Factorization.{Factorization}
@@ -29,4 +29,4 @@ module _ (a r q : Matrix) (f : Factorization a r q) where
 
   pub finished : isFinished r ≡ true
   unfolding isFinished
-  finished = all-of (λ k. isFinishedAt (k / 16) (k % 16) (r (k / 16) (k % 16))) 256 (λ k h. finished-at (k / 16) (k % 16) (omega arith))
+  finished = pairs-of (λ i j. isFinishedAt i j (r i j)) (λ i j h k. finished-at i j h)

@@ -15,14 +15,30 @@ use Rattle.integers.specs.Sum.{sum}
 abbrev pub gram : Matrix → ℕ → ℕ → ℤ
 gram m i j = sum 16 (λ k. m k i *ℤ m k j)
 
+-- the limit: no sum of a matrix worked to the end lies farther from where it should be
+abbrev pub errorLimit : ℕ
+errorLimit = 2 ^ 44
+
+-- how far entry (i, j) of Q times R lies from 2^43 times the entry of the input made real
+abbrev pub productError : Matrix → Matrix → Matrix → ℕ → ℕ → ℤ
+productError a r q i j = sum 16 (λ k. q i k *ℤ r k j) -ℤ pos (2 ^ 43) *ℤ a i j
+
+-- how far the sum of products of rows i and j of Q lies from 2^60 where i equals j, and from 0 where it doesn't
+abbrev pub rowsError : Matrix → ℕ → ℕ → ℤ
+rowsError q i j = sum 16 (λ k. q i k *ℤ q j k) -ℤ cond (eqb i j) (pos (2 ^ 60)) (pos 0)
+
+-- how far the sum of products of columns i and j of R lies from 2^26 times the same sum over the input made real
+abbrev pub columnsError : Matrix → Matrix → ℕ → ℕ → ℤ
+columnsError a r i j = gram r i j -ℤ pos (2 ^ 26) *ℤ gram a i j
+
 -- the matrix a is worked to the end as q times r. The bounds are for every i and j from 0 to 15, and sums are exact
 pub record Factorization (a r q : Matrix) : Type 0 where
   -- R is upper triangular with its first fifteen diagonal words not negative
   pub triangular : (i j : ℕ) → j < i → i < 16 → r i j ≡ pos 0
   pub diagonal : (j : ℕ) → j < 15 → pos 0 ≤ℤ r j j
   -- every entry of Q times R lies within 2^44 of 2^43 times the entry of the input made real
-  pub product : (i j : ℕ) → i < 16 → j < 16 → Within (sum 16 (λ k. q i k *ℤ r k j) -ℤ pos (2 ^ 43) *ℤ a i j) (2 ^ 44)
+  pub product : (i j : ℕ) → i < 16 → j < 16 → Within (productError a r q i j) errorLimit
   -- the sum of products of rows i and j of Q lies within 2^44 of 2^60 where i equals j and of 0 where it doesn't
-  pub orthogonal : (i j : ℕ) → i < 16 → j < 16 → Within (sum 16 (λ k. q i k *ℤ q j k) -ℤ cond (eqb i j) (pos (2 ^ 60)) (pos 0)) (2 ^ 44)
+  pub orthogonal : (i j : ℕ) → i < 16 → j < 16 → Within (rowsError q i j) errorLimit
   -- the sum of products of columns i and j of R lies within 2^44 of 2^26 times the same sum over the input made real
-  pub columns : (i j : ℕ) → i < 16 → j < 16 → Within (gram r i j -ℤ pos (2 ^ 26) *ℤ gram a i j) (2 ^ 44)
+  pub columns : (i j : ℕ) → i < 16 → j < 16 → Within (columnsError a r i j) errorLimit

@@ -13,6 +13,7 @@ use Rattle.covariance.specs.Sums.{sumsNone}
 use Rattle.covariance.specs.AddSnapshot.{addOf}
 use Rattle.covariance.specs.WriteMatrix.{writeOf}
 use Rattle.weights.specs.Weights.{weightsOf}
+use Rattle.verify.specs.Verify.{verdictOf}
 use Rattle.desk.specs.declared.Desk.{Desk}
 use Rattle.desk.specs.Desk.{newDesk}
 use Rattle.desk.specs.Roles.{viewer, operator}
@@ -27,6 +28,7 @@ use Rattle.caller.specs.declared.AgainReply.{AgainReply}
 use Rattle.caller.specs.declared.CopyReply.{CopyReply}
 use Rattle.caller.specs.declared.PairReply.{PairReply}
 use Rattle.caller.specs.declared.WeighedReply.{WeighedReply}
+use Rattle.caller.specs.declared.VerifiedReply.{VerifiedReply}
 use Rattle.caller.specs.declared.ServedReply.{ServedReply}
 use Rattle.caller.specs.declared.RoundReply.{RoundReply}
 
@@ -95,6 +97,17 @@ unfoldable pub weighedOf : List ℕ → List Sample → List ℤ → List ℕ �
 weighedOf rec targets workspace buffer =
     let done = wholeOf rec workspace buffer in
     record { reply = record { whole = done .reply; weights = weightsOf (done .buffer) targets }; workspace = done .workspace; buffer = done .buffer }
+
+pub record VerifiedOutcome : Type 0 where
+  pub reply : VerifiedReply
+  pub workspace : List ℤ
+  pub buffer : List ℕ
+
+-- Whole, and the verdict on what the buffer then holds
+unfoldable pub verifiedOf : List ℕ → List ℤ → List ℕ → VerifiedOutcome
+verifiedOf rec workspace buffer =
+    let done = wholeOf rec workspace buffer in
+    record { reply = record { whole = done .reply; verdict = verdictOf rec (done .buffer) }; workspace = done .workspace; buffer = done .buffer }
 
 pub record ServedOutcome : Type 0 where
   pub reply : ServedReply

@@ -1,6 +1,7 @@
 // A caller of all calls, proved from their contracts alone: a factorization in two instalments, a stored result fetched again, a copy of a result,
-// the matrix of two snapshots, the weights of a matrix, a sector served at a desk with the next matrix early, and a round begun there. Each answers
-// the replies of all calls that it makes, so that whoever calls it sees the first refusal. The words here are document 01's own.
+// the matrix of two snapshots, the weights of a matrix, the verdict on a result just made, a sector served at a desk with the next matrix early, and a
+// round begun there. Each answers the replies of all calls that it makes, so that whoever calls it sees the first refusal. The words here are document
+// 01's own.
 use desk::Desk;
 use desk::DeskReply;
 use desk::OPERATOR;
@@ -15,9 +16,10 @@ use engine::read::ReadReply;
 use engine::run::RunReply;
 use engine::whole::WholeReply;
 use hubqr::snapshots::Snapshot;
+use verify::Verdict;
 use weights::WeightsReply;
 ghost use mathlib.Core.Path.{_≡_};
-ghost use Rattle.caller.specs.Caller.{HalvesOutcome, halvesOf, AgainOutcome, againOf, CopyOutcome, copyOf, PairOutcome, pairOf, WeighedOutcome, weighedOf, ServedOutcome, servedOf, RoundOutcome, roundOf};
+ghost use Rattle.caller.specs.Caller.{HalvesOutcome, halvesOf, AgainOutcome, againOf, CopyOutcome, copyOf, PairOutcome, pairOf, WeighedOutcome, weighedOf, VerifiedOutcome, verifiedOf, ServedOutcome, servedOf, RoundOutcome, roundOf};
 
 // The turns of one instalment: half of them.
 const HALF: u16 = 60;
@@ -53,6 +55,12 @@ pub struct PairReply {
 pub struct WeighedReply {
     pub whole: WholeReply,
     pub weights: WeightsReply,
+}
+
+// The replies of Whole and of the verdict.
+pub struct VerifiedReply {
+    pub whole: WholeReply,
+    pub verdict: Verdict,
 }
 
 // The replies of the setting of shares and the begin of a round, and of both hand-ins, Run and Fetch for a sector.
@@ -138,6 +146,18 @@ pub fn factor_and_weigh(
     WeighedReply {
         whole: factored,
         weights,
+    }
+}
+
+// Whole, and the verdict on what the buffer then holds.
+pub fn factor_and_verify(bytes: &[u8], area: &mut [i32], buffer: &mut [u8]) -> VerifiedReply
+    ensures { λ r. ⌜ record { reply = r; workspace = now (area .exit); buffer = now (buffer .exit) } ≡ verifiedOf (now (bytes .entry)) (now (area .entry)) (now (buffer .entry)) ⌝ }
+{
+    let done = hubqr::hubqr_whole(bytes, area, buffer);
+    let verdict = hubqr::boards::hubqr_verify(bytes, buffer);
+    VerifiedReply {
+        whole: done,
+        verdict,
     }
 }
 

@@ -2,10 +2,10 @@
 use mathlib.Core.Path.{_≡_, refl, sym, ap, _∙_, subst}
 use mathlib.Core.Bool.{Bool, false}
 use mathlib.Core.List.{List, [], _∷_, append-nil}
-use Prim.Native.Nat.{ℕ, zero, suc, _<_}
+use Prim.Native.Nat.{ℕ, zero, suc, _≤_, _<_}
 use native.Mathlib.Omega.{arith}
 use lib.IntN.{ℤ}
-use lib.ListN.{take, drop}
+use lib.ListN.{length, take, drop}
 use lib.Seq.{take-at}
 use Rattle.lists.specs.Lists.{tabulate, filled}
 use Rattle.lists.specs.Histories.{afterAll, Point}
@@ -27,7 +27,7 @@ use Rattle.desk_laws.specs.Results.{InStep, Fetched, ResultsAccurate, Fe
 use Rattle.desk_laws.proofs.Seats.{Seat, seat, Eight, runSeat, seatGrant, no-grant, fetchNumber, seatBrings, fetch-passed, fetchAnswer, ownAnswer, fetch-number-is, seatLent, lent-own, left-same, own-kind, own-answer, own-loads, eight-after, eight-new}
 use Rattle.desk_laws.proofs.Steady.{Any, Steady, steady-after}
 use Rattle.desk_laws.proofs.LastLoad.{Split, Last, quiet, split, last}
-use Rattle.desk_laws.proofs.Ledgers.{same-record, own-loading, own-entry, noted-all, ledger-append}
+use Rattle.desk_laws.proofs.Ledgers.{passes-again, same-record, no-source, own-loading, own-entry, noted-all, ledger-append}
 use Rattle.desk_laws.proofs.Sectors.{sector-demand-3}
 
 -- ---- the law on results
@@ -91,11 +91,20 @@ module _ (i : ℕ) (small : i < 8) (areas : ℕ → List ℤ) (calls : List Call
         }
 
   by-last : Last i (new areas) fresh calls → Fetched role i (after (new areas) calls) buffer rec
-  by-last (quiet t) = absurd (let e = sym (t .source) ∙ u .source in let z : _≡_ {A = ℕ} 0 1 = cc in omega arith)
+  by-last (quiet t) = absurd (no-source rec (sym (t .source) ∙ u .source))
   by-last (split p) = subst (λ (h : Hub). Fetched role i h buffer rec) (sym (hub-split p)) (fetched-since p)
+
+  -- the record passed Load's tests
+  passes-by-last : Last i (new areas) fresh calls → (l : List ℤ) → 512 ≤ length l → loadRefusal rec l ≡ 0
+  passes-by-last (quiet t) l h = absurd (no-source rec (sym (t .source) ∙ u .source))
+  passes-by-last (split p) l h = passes-again rec (seatLent (seat i (load-hub p)) (p .load)) l (passed p) h
 
 pub results-accurate : ResultsAccurate
 results-accurate role i areas calls buffer rec small u = by-last i small areas calls role buffer rec u (last i (new areas) fresh calls)
+
+-- what a sector's job was loaded from passes Load's tests with every area that is long enough
+pub source-passes : (i : ℕ) → i < 8 → (areas : ℕ → List ℤ) (calls : List Call) (rec : List ℕ) → InStep rec (ledger i areas calls) → (l : List ℤ) → 512 ≤ length l → loadRefusal rec l ≡ 0
+source-passes i small areas calls rec u = passes-by-last i small areas calls 0 [] rec u (last i (new areas) fresh calls)
 
 -- ---- a Fetch again
 

@@ -1,19 +1,30 @@
 -- Laws of `Within`: bounds go with sums and products by their shape, and a chain of differences adds up. Assumes nothing.
 use mathlib.Core.Path.{_≡_, ap}
+use mathlib.Core.Bool.{true}
 use mathlib.Core.List.{[], _∷_}
 use Prim.Native.Nat.{ℕ, zero, suc, _+_, _*_, _^_, _≤_, _<_}
 use native.Mathlib.Nat.{le-refl, le-trans, le-of-eq, lt-of-le-of-lt, mul-le-mul, add-le-add}
 use native.Mathlib.Omega.{arith}
+use borrow.Author.Tests.{leb-true, le-leb}
 use lib.IntN.{ℤ, pos, negsuc, negℤ, natAbs, _+ℤ_, _-ℤ_, _*ℤ_, +ℤ-invr}
 use lib.Signed.{natAbs-le}
 use mir.Syntax.{Width}
 use mir.Val.{SFits, hbits}
-use Rattle.integers.specs.Within.{Within}
+use Rattle.integers.specs.Within.{Within, isWithin}
 use Rattle.integers.proofs.Laws.{abs-neg, abs-*, abs-+, abs-sub-le}
 use Rattle.integers.proofs.Ring.{_⊕_, _⊝_, neg, _≐_, ring}
 
 pub within : {x : ℤ} {n : ℕ} → natAbs x ≤ n → Within x n
 within h = record { abs = h }
+
+-- the test and what it says
+pub within-if : (x : ℤ) (n : ℕ) → isWithin x n ≡ true → Within x n
+unfolding isWithin
+within-if x n e = within (leb-true (natAbs x) n e)
+
+pub if-within : {x : ℤ} {n : ℕ} → Within x n → isWithin x n ≡ true
+unfolding isWithin
+if-within {x} {n} h = le-leb (natAbs x) n (h .abs)
 
 pub within-+ : {x y : ℤ} {m n : ℕ} → Within x m → Within y n → Within (x +ℤ y) (m + n)
 within-+ {x} {y} h k = within (le-trans (abs-+ x y) (add-le-add (h .abs) (k .abs)))

@@ -2,7 +2,7 @@
 use mathlib.Core.Path.{_≡_, refl, sym, ap, _∙_, subst}
 use mathlib.Core.Bool.{Bool, true, false, _&&_}
 use mathlib.Core.Logic.{⊎-elim}
-use Prim.Native.Nat.{ℕ, zero, suc, _+_, _-_, _<_, _≤_}
+use Prim.Native.Nat.{ℕ, zero, suc, _+_, _-_, _*_, _/_, _%_, _<_, _≤_}
 use native.Mathlib.Decide.{decLt}
 use native.Mathlib.Nat.{le-refl, not-suc-le-zero, le-of-suc-le-suc, eq-or-lt-of-le}
 use native.Mathlib.Numerals.{add-one}
@@ -97,3 +97,14 @@ run-fails p n k m l e = go (allBelow n p) refl
     go : (b : Bool) → allBelow n p ≡ b → false ≡ b
     go false h = refl
     go true h = sym e ∙ all-of (λ j. p (k + j)) m (λ j a. all-at p n h (k + j) (omega arith))
+
+-- ---- a test of 16 rows and columns by number: number p is row p / 16, column p % 16
+
+pub pairs-at : (p : ℕ → ℕ → Bool) → allBelow 256 (λ n. p (n / 16) (n % 16)) ≡ true → (i j : ℕ) → i < 16 → j < 16 → p i j ≡ true
+pairs-at p h i j a b =
+    let row : (i * 16 + j) / 16 ≡ i = omega arith in
+    let column : (i * 16 + j) % 16 ≡ j = omega arith in
+    rw (row, column) at (all-at (λ n. p (n / 16) (n % 16)) 256 h (i * 16 + j) (omega arith))
+
+pub pairs-of : (p : ℕ → ℕ → Bool) → ((i j : ℕ) → i < 16 → j < 16 → p i j ≡ true) → allBelow 256 (λ n. p (n / 16) (n % 16)) ≡ true
+pairs-of p h = all-of (λ n. p (n / 16) (n % 16)) 256 (λ n a. h (n / 16) (n % 16) (omega arith) (omega arith))

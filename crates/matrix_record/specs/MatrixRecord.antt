@@ -10,7 +10,7 @@ use lib.Signed.{ltZ}
 use Rattle.integers.specs.Matrix.{Matrix}
 use Rattle.lists.specs.Lists.{tabulate}
 use Rattle.words.specs.Words.{int16, int16Byte}
-use Rattle.refusals.specs.Refusals.{noneHeard, failsIf}
+use Rattle.refusals.specs.Refusals.{noneHeard, first, failsIf, headerTest}
 
 -- the tag (document 01's kind byte) and the length of a matrix record
 abbrev pub matrixTag : ℕ
@@ -58,3 +58,7 @@ heardByte rec = heardBelow rec 8
 -- 4: "no antenna is heard", so that no bit would be set
 abbrev pub matrixTest : List ℕ → ℕ
 matrixTest rec = failsIf (eqb (heardByte rec) 0) noneHeard
+
+-- ---- tests 1, 2 and 4, of a record by itself
+unfoldable pub matrixRefusal : List ℕ → ℕ
+matrixRefusal rec = first (headerTest matrixTag matrixBytes rec) (matrixTest rec)

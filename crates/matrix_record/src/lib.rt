@@ -1,10 +1,10 @@
-// The matrix record: its elements, the real matrix made of them, and what the antennas heard.
+// The matrix record: its elements, the real matrix made of them, what the antennas heard, and the tests of a record by itself.
 use words::signed16;
 ghost use mathlib.Core.Path.{_≡_};
 ghost use Prim.Native.Nat.{_<_, _≤_};
 ghost use lib.Signed.{mag};
 ghost use lib.ListN.{length};
-ghost use Rattle.matrix_record.specs.MatrixRecord.{matrixBytes, partOf, realEntry, antennaHeard, heardByte};
+ghost use Rattle.matrix_record.specs.MatrixRecord.{matrixBytes, partOf, realEntry, antennaHeard, heardByte, matrixRefusal};
 
 // The first byte of a matrix record, and its length.
 pub const TAG: u8 = 1;
@@ -68,4 +68,18 @@ pub fn heard_byte(bytes: &[u8]) -> u8
         k += 1;
     }
     sum as u8
+}
+
+// Tests 1, 2 and 4 of a record by itself: the number of the first that fails, 0 for none.
+pub fn record_refusal(bytes: &[u8]) -> u8
+    ensures { λ r. ⌜ r ≡ matrixRefusal (now (bytes .entry)) ⌝ }
+{
+    let number = refusals::header_refusal(bytes, TAG, BYTES);
+    if number != 0 {
+        return number;
+    }
+    if heard_byte(bytes) == 0 {
+        return refusals::NONE_HEARD;
+    }
+    0
 }

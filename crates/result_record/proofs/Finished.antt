@@ -1,7 +1,7 @@
 -- What test 8 says of the words of R. Assumes nothing.
 use mathlib.Core.Path.{_≡_, ap}
 use mathlib.Core.Bool.{true}
-use Prim.Native.Nat.{ℕ, _+_, _*_, _/_, _%_, _≤_, _<_}
+use Prim.Native.Nat.{ℕ, _≤_, _<_}
 use native.Mathlib.Decide.{ℕ-discrete}
 use native.Mathlib.Omega.{arith}
 use borrow.Author.Tests.{lt-ltb, le-ltb, eq-eqb, eqb-true}
@@ -9,16 +9,13 @@ use lib.IntN.{pos, natAbs}
 use lib.Signed.{nonNeg}
 use Rattle.integers.specs.Matrix.{Matrix}
 use Rattle.integers.proofs.Laws.{abs-zero}
-use Rattle.lists.proofs.Passing.{all-at}
+use Rattle.lists.proofs.Passing.{pairs-at}
 use Rattle.result_record.specs.ResultRecord.{isFinishedAt, isFinished}
 
 module _ (r : Matrix) (finished : isFinished r ≡ true) where
   at : (i j : ℕ) → i < 16 → j < 16 → isFinishedAt i j (r i j) ≡ true
   unfolding isFinished
-  at i j p q =
-      let row : (i * 16 + j) / 16 ≡ i = omega arith in
-      let column : (i * 16 + j) % 16 ≡ j = omega arith in
-      rw (row, column) at (all-at (λ k. isFinishedAt (k / 16) (k % 16) (r (k / 16) (k % 16))) 256 finished (i * 16 + j) (omega arith))
+  at = pairs-at (λ i j. isFinishedAt i j (r i j)) finished
 
   -- a word under the diagonal
   pub finished-zero : (i j : ℕ) → j < i → i < 16 → r i j ≡ pos 0

@@ -2,22 +2,18 @@
 -- worked out from document 02's words, and use nothing of those definitions. A float is written as the logic has it: `fin s m e` is m times 2 ^ e, negative
 -- where s is true, and m is odd or 0. Assumes nothing.
 use mathlib.Core.Path.{_≡_, refl}
-use mathlib.Core.Bool.{true, false, cond, _&&_}
+use mathlib.Core.Bool.{true, false, cond}
 use mathlib.Core.List.{List, [], _∷_}
 use Prim.Native.Nat.{ℕ, _+_}
 use lib.Dec.{eqb}
 use lib.Ieee.{Float, fin, round, ofInt, neg, add, sub, mul, div}
 use lib.Ieee as ieee
 use lib.IntN.{ℤ, pos, negsuc}
-use Rattle.integers.specs.Matrix.{Matrix}
+use Rattle.integers.specs.Matrix.{Entry, at, matrixOf}
 use Rattle.integers.specs.Sum.{sum}
 use Rattle.lists.specs.Lists.{tabulate}
 use Rattle.covariance.specs.declared.Sample.{Sample}
 use Rattle.weights.specs.Solution.{targetPart, rightSum, rightSide, rowLeft, rowComponent, componentOf, workedRows}
-
--- a word at a row and a column
-pub data Entry : Type 0 where
-  at : ℕ → ℕ → ℤ → Entry
 
 -- one of the target's 16 parts
 pub data Part : Type 0 where
@@ -27,10 +23,6 @@ pub data Weighing : Type 0 where
   -- R has one word all along its diagonal and others where a list has them, Q has its own, and the target has the parts of a list, all else being 0:
   -- this component of the weights is this float
   weighs : ℤ → List Entry → ℤ → List Entry → List Part → ℕ → Float → Weighing
-
-unfoldable pub matrixOf : ℤ → List Entry → Matrix
-matrixOf d [] i j = cond (eqb i j) d (pos 0)
-matrixOf d (at row column word ∷ es) i j = cond (eqb i row && eqb j column) word (matrixOf d es i j)
 
 unfoldable pub valueOf : List Part → ℕ → ℤ
 valueOf [] j = pos 0

@@ -3,9 +3,9 @@
 //! symbols and with the sources that the archive is made of.
 //!
 //! A pointer may be null only where its length is 0, and the record, the area and the buffer of a
-//! call may not overlap. In every reply `number` is 0 for an accepted call, and the refusal's number
-//! otherwise. A `role` is the number of a [`Role`](crate::Role): any other number is refused with 15,
-//! by every call that takes one.
+//! call may not overlap. The two records of [`hubqr_verify`] may, since both are only read. In every
+//! reply `number` is 0 for an accepted call, and the refusal's number otherwise. A `role` is the number
+//! of a [`Role`](crate::Role): any other number is refused with 15, by every call that takes one.
 
 /// How far the work on an area is. The caller keeps it beside the area and hands it to the next call.
 #[repr(C)]
@@ -126,6 +126,16 @@ pub struct WeightsReply {
     pub number: u8,
     /// That of antenna k at place k; of a refused call, +0.0 in all parts.
     pub weights: [Weight; 8],
+}
+
+/// What verifying a result record against a matrix record answers.
+#[repr(C)]
+#[derive(Clone, Copy, Debug, PartialEq, Eq)]
+pub struct Verdict {
+    /// 0, or the refusal's number.
+    pub number: u8,
+    /// 1 for yes, 0 for no; of a refused call, which is neither, 0.
+    pub yes: u8,
 }
 
 /// How far the work for the eight sectors of a hub is, their shares, what each has left in the round,
@@ -282,6 +292,14 @@ extern "C" {
 
     /// Works out the weights that a result record gives for eight targets.
     pub fn hubqr_weights(record: *const u8, record_len: usize, targets: Snapshot) -> WeightsReply;
+
+    /// Says whether a result record holds the factors of a matrix record's matrix.
+    pub fn hubqr_verify(
+        matrix: *const u8,
+        matrix_len: usize,
+        result: *const u8,
+        result_len: usize,
+    ) -> Verdict;
 
     /// A new desk: no sector is loaded, and each has a share of 15 turns, all of them left.
     pub fn hubqr_desk_new() -> Desk;

@@ -47,6 +47,11 @@
 //! matrix A that was factored and eight **targets** t. [`weights()`] works them out from a result
 //! record.
 //!
+//! Boards that factor by themselves write result records of their own, which are right without being
+//! bit for bit those of this engine. [`verify()`] says yes or no to one, whoever wrote it: whether Q
+//! times R, and the rows of Q, are within the limits that the results of this engine have for the
+//! matrix.
+//!
 //! The **desk** serves a hub's eight **sectors**, each with its own job, heard byte and area, by
 //! **rounds**. When a round begins, each sector has the turns of its own **share**, which no other
 //! sector can use; the shares of all are at most 120 together. A sector may hand in its next matrix
@@ -152,6 +157,8 @@ mod refusal;
 #[cfg(feature = "archive")]
 mod role;
 #[cfg(feature = "archive")]
+mod verify;
+#[cfg(feature = "archive")]
 mod weights;
 
 #[cfg(feature = "archive")]
@@ -167,6 +174,8 @@ pub use ffi::{Desk, Job, Sample, Weight};
 pub use refusal::{Refusal, UnknownNumber};
 #[cfg(feature = "archive")]
 pub use role::Role;
+#[cfg(feature = "archive")]
+pub use verify::verify;
 #[cfg(feature = "archive")]
 pub use weights::weights;
 

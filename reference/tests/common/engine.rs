@@ -9,6 +9,7 @@ use reference::desk::{Desk, DeskReply, Seat, SECTORS};
 use reference::job::Job;
 use reference::records::MATRIX_RECORD;
 use reference::replies::{FetchReply, LoadReply, ReadReply, RunReply, WholeReply};
+use reference::verify::VerifyReply;
 use reference::weights::WeightsReply;
 
 use super::weights::Targets;
@@ -127,6 +128,23 @@ pub fn weights(record: &mut [u8], targets: &Targets) -> WeightsReply {
     WeightsReply {
         number: reply.number,
         weights: reply.weights.map(|weight| (weight.re, weight.im)),
+    }
+}
+
+/// Nothing stands for yes but 1, and nothing for no but 0.
+pub fn verify(matrix: &mut [u8], result: &mut [u8]) -> VerifyReply {
+    let ffi::Verdict { number, yes } = unsafe {
+        ffi::hubqr_verify(
+            matrix.as_mut_ptr(),
+            matrix.len(),
+            result.as_mut_ptr(),
+            result.len(),
+        )
+    };
+    assert!(yes <= 1, "{yes} is neither yes nor no");
+    VerifyReply {
+        number,
+        yes: yes == 1,
     }
 }
 

@@ -9,7 +9,7 @@ use reference::random::Random;
 use reference::records::MATRIX_RECORD;
 
 use super::twin::{hexadecimal, Twin};
-use super::{engine, Case};
+use super::{engine, refusals, Case};
 
 /// The longest buffer that can be lent.
 const LONGEST: usize = 300;
@@ -28,10 +28,7 @@ impl Seen {
         let Seen {
             snapshots, records, ..
         } = self;
-        let refusals = self.refusals.iter();
-        let refusals: String = refusals
-            .map(|(number, count)| format!(", {count} refused with {number}"))
-            .collect();
+        let refusals = refusals::listed(&self.refusals);
         println!("\n{test}: {snapshots} snapshots added, {records} records written{refusals}");
     }
 }

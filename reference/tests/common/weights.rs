@@ -9,7 +9,7 @@ use reference::weights::{self, WeightsReply};
 
 use super::snapshots::Snapshots;
 use super::twin::Twin;
-use super::{engine, Case};
+use super::{engine, refusals, Case};
 
 /// Eight targets, each a real and an imaginary part.
 pub type Targets = [(i16, i16); ANTENNAS];
@@ -54,10 +54,7 @@ impl Seen {
     };
 
     pub fn print(&self, test: &str) {
-        let refusals = self.refusals.iter();
-        let refusals: String = refusals
-            .map(|(number, count)| format!(", {count} refused with {number}"))
-            .collect();
+        let refusals = refusals::listed(&self.refusals);
         println!("\n{test}: {} solved{refusals}", self.accepted);
         if self.largest > 0.0 {
             let [smallest, largest] = [self.smallest, self.largest].map(f64::log2);

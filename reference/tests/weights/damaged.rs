@@ -4,9 +4,9 @@ use reference::matrix::REAL_SIZE;
 use reference::random::Random;
 use reference::records::{write_result, RESULT_RECORD};
 
+use crate::common::triangle::{any_accepted, triangle};
 use crate::common::weights::{any_targets, Seen};
 use crate::common::Case;
-use crate::records::{any_accepted, triangle};
 
 const LONGEST: usize = 2_100;
 

@@ -7,7 +7,6 @@ mod damaged;
 mod nearness;
 mod numbers;
 mod places;
-mod records;
 mod rules;
 mod sizes;
 mod words;

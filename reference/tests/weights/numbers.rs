@@ -5,9 +5,9 @@ use std::collections::BTreeSet;
 use reference::random::Random;
 use reference::records::write_result;
 
+use crate::common::triangle::any_accepted;
 use crate::common::weights::{any_targets, Seen};
 use crate::common::Case;
-use crate::records::any_accepted;
 
 /// Ways to pass a test, first, and to fail it.
 const KINDS: [u8; 6] = [2, 0, 1, 3, 0x82, 0xFF];

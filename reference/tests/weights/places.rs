@@ -4,9 +4,9 @@ use reference::matrix::REAL_SIZE;
 use reference::random::Random;
 use reference::records::write_result;
 
+use crate::common::triangle::any_accepted;
 use crate::common::weights::{any_targets, Seen};
 use crate::common::Case;
-use crate::records::any_accepted;
 
 /// Puts words into accepted records, one at a time, and requires the number that is due.
 struct Places {

@@ -7,9 +7,9 @@ use reference::records::{parse_result, write_result};
 use reference::weights::WeightsReply;
 
 use crate::common::noticed::Noticed;
+use crate::common::triangle::triangle;
 use crate::common::weights::{bits, Seen, Targets, NO_TARGET};
 use crate::common::Case;
-use crate::records::triangle;
 
 #[derive(Debug, Clone, Copy)]
 enum Rule {

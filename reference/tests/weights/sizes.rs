@@ -6,9 +6,9 @@ use reference::random::Random;
 use reference::records::write_result;
 use reference::weights::weights;
 
+use crate::common::triangle::triangle;
 use crate::common::weights::{any_targets, Seen, Targets, NO_TARGET};
 use crate::common::Case;
-use crate::records::triangle;
 use crate::rules::Compared;
 
 const LOWEST: i32 = i32::MIN;

@@ -5,10 +5,10 @@ use reference::matrix::REAL_SIZE;
 use reference::random::Random;
 use reference::records::write_result;
 
+use crate::common::triangle::{by_halves, triangle};
 use crate::common::weights::any_targets;
 use crate::common::words::Words;
 use crate::common::Case;
-use crate::records::triangle;
 use crate::rules::Compared;
 
 /// Records of each way to draw R, its diagonal and Q.
@@ -25,8 +25,7 @@ fn drawn([r, diagonal, q]: [Words; 3], random: &mut Random) -> WorkArea {
     if random.one_in(20) {
         diagonals[random.below(REAL_SIZE)] = 0;
     }
-    let ways = [r, q].into_iter().cycle();
-    let mut ways = ways.flat_map(|way| [way; REAL_SIZE]);
+    let mut ways = by_halves(r, q);
     let mut word = || ways.next().expect("they never end").draw(random);
     triangle(&mut word, |i| diagonals[i])
 }

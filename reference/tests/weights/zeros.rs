@@ -3,9 +3,9 @@
 use reference::random::Random;
 use reference::records::write_result;
 
+use crate::common::triangle::any_accepted;
 use crate::common::weights::{bits, Seen, NO_TARGET};
 use crate::common::Case;
-use crate::records::any_accepted;
 
 const MINUS_ZERO: u64 = 1 << 63;
 

@@ -12,6 +12,7 @@ pub enum Command {
     Pack { text: OsString, record: OsString },
     Show { file: OsString },
     Check { matrix: OsString, result: OsString },
+    Verify { matrix: OsString, result: OsString },
     Weights { result: OsString, targets: OsString },
 }
 
@@ -29,6 +30,7 @@ impl Command {
             Some("pack") if wants_help => Ok(Command::Help(help::PACK)),
             Some("show") if wants_help => Ok(Command::Help(help::SHOW)),
             Some("check") if wants_help => Ok(Command::Help(help::CHECK)),
+            Some("verify") if wants_help => Ok(Command::Help(help::VERIFY)),
             Some("weights") if wants_help => Ok(Command::Help(help::WEIGHTS)),
             Some("pack") => rest
                 .files("pack IN.txt OUT.bin")
@@ -37,10 +39,21 @@ impl Command {
             Some("check") => rest
                 .files("check MATRIX RESULT")
                 .map(|[matrix, result]| Command::Check { matrix, result }),
+            Some("verify") => rest
+                .files("verify MATRIX RESULT")
+                .map(|[matrix, result]| Command::Verify { matrix, result }),
             Some("weights") => rest
                 .files("weights RESULT TARGETS")
                 .map(|[result, targets]| Command::Weights { result, targets }),
             _ => Err(Failure::Usage(format!("unknown command {}", quoted(&name)))),
+        }
+    }
+
+    /// The exit status of this command where it could not be done. That of verify differs from its no.
+    pub fn undone(&self) -> u8 {
+        match self {
+            Command::Verify { .. } => 2,
+            _ => 1,
         }
     }
 }
@@ -103,6 +116,11 @@ mod tests {
             result: "r".into(),
         };
         assert_eq!(parse(&["check", "m", "r"]).unwrap(), check);
+        let verify = Command::Verify {
+            matrix: "-".into(),
+            result: "r".into(),
+        };
+        assert_eq!(parse(&["verify", "-", "r"]).unwrap(), verify);
         let weights = Command::Weights {
             result: "r".into(),
             targets: "-".into(),
@@ -147,10 +165,11 @@ mod tests {
             &["show", "-v"],
             &["pack", "a"],
             &["check", "a", "--fast"],
+            &["verify", "a"],
             &["weights", "a"],
         ] {
             let failure = parse(arguments).unwrap_err();
-            assert_eq!(failure.status(), 2, "{arguments:?}");
+            assert!(matches!(failure, Failure::Usage(_)), "{arguments:?}");
         }
     }
 }

@@ -1,4 +1,5 @@
-//! `record check`: the errors of a result against their limits, in exact whole numbers.
+//! `record check`: the errors of a result against their limits, in exact whole numbers, and the engine's
+//! verdict.
 use std::ffi::OsStr;
 
 use hubqr::Refusal;
@@ -6,8 +7,9 @@ use hubqr::Refusal;
 use crate::factors::{places, Factors, SIZE};
 use crate::failure::Failure;
 use crate::matrix::Matrix;
-use crate::records::Record;
+use crate::records::{self, Record};
 use crate::refusal::refused_with;
+use crate::verify::verdict_text;
 use crate::{files, Report};
 
 /// The most that a sum may differ from what it should be.
@@ -15,19 +17,21 @@ const LIMIT: i128 = 1 << 44;
 
 pub fn check(matrix: &OsStr, result: &OsStr) -> Result<Report, Failure> {
     files::not_both_standard(matrix, result)?;
-    let factors = match Record::read(result)? {
-        Record::Result(factors) => factors,
-        other => return Err(wrong_record(result, &other, "a result record")),
-    };
-    let matrix = match Record::read(matrix)? {
-        Record::Matrix(found) if found.none_heard() => {
-            return Err(files::named(matrix, refused_with(Refusal::NoneHeard)));
-        }
+    let [matrix_bytes, result_bytes] = [records::read_bytes(matrix)?, records::read_bytes(result)?];
+    let found = match Record::parse(matrix, &matrix_bytes)? {
         Record::Matrix(found) => found,
         other => return Err(wrong_record(matrix, &other, "a matrix record")),
     };
-    let (text, in_order) = figures_text(&matrix, &factors);
-    Ok(Report::text(text, in_order))
+    let verdict = hubqr::verify(&matrix_bytes, &result_bytes);
+    if verdict == Err(Refusal::NoneHeard) {
+        return Err(files::named(matrix, refused_with(Refusal::NoneHeard)));
+    }
+    let factors = match Record::parse(result, &result_bytes)? {
+        Record::Result(factors) => factors,
+        other => return Err(wrong_record(result, &other, "a result record")),
+    };
+    let text = figures_text(&found, &factors, verdict);
+    Ok(Report::text(text, verdict == Ok(true)))
 }
 
 fn wrong_record(file: &OsStr, found: &Record, wanted: &str) -> Failure {
@@ -60,13 +64,8 @@ impl Worst {
         let share = 100.0 * self.difference as f64 / LIMIT as f64;
         let figure = self.difference.to_string();
         let place = format!("({i}, {j})");
-        line(
-            name,
-            &figure,
-            &place,
-            &format!("{share:.3} %"),
-            verdict(self.within()),
-        )
+        let share = format!("{share:.3} %");
+        line(name, &figure, &place, &share, within_or_not(self.within()))
     }
 }
 
@@ -77,17 +76,13 @@ struct Breaks {
 }
 
 impl Breaks {
-    fn within(&self) -> bool {
-        self.count == 0
-    }
-
     fn line(&self, name: &str) -> String {
         let (count, of) = (self.count.to_string(), format!("of {}", self.of));
-        line(name, &count, &of, "", verdict(self.within()))
+        line(name, &count, &of, "", within_or_not(self.count == 0))
     }
 }
 
-fn verdict(within: bool) -> &'static str {
+fn within_or_not(within: bool) -> &'static str {
     if within {
         "within"
     } else {
@@ -95,13 +90,13 @@ fn verdict(within: bool) -> &'static str {
     }
 }
 
-fn line(name: &str, figure: &str, place: &str, share: &str, verdict: &str) -> String {
-    let text = format!("{name:<41}{figure:>20}   {place:<8}{share:>17}   {verdict}");
+fn line(name: &str, figure: &str, place: &str, share: &str, within: &str) -> String {
+    let text = format!("{name:<41}{figure:>20}   {place:<8}{share:>17}   {within}");
     text.trim_end().to_string() + "\n"
 }
 
-/// The figures, and whether all are within their limits.
-fn figures_text(matrix: &Matrix, factors: &Factors) -> (String, bool) {
+/// The figures, and the engine's verdict in the last line.
+fn figures_text(matrix: &Matrix, factors: &Factors, verdict: Result<bool, Refusal>) -> String {
     let product =
         Worst::of(|i, j| factors.q_times_r(i, j) - (i128::from(matrix.real_entry(i, j)) << 43));
     let rows = Worst::of(|i, j| {
@@ -120,8 +115,6 @@ fn figures_text(matrix: &Matrix, factors: &Factors) -> (String, bool) {
         count: broken.negative_diagonal.len(),
         of: SIZE - 1,
     };
-    let errors_within = product.within() && rows.within() && columns.within();
-    let in_order = errors_within && under.within() && negative.within();
     let text = [
         line("", "largest difference", "place", "of the limit 2^44", ""),
         product.line("Q times R from 2^43 times the input"),
@@ -129,15 +122,16 @@ fn figures_text(matrix: &Matrix, factors: &Factors) -> (String, bool) {
         columns.line("products of R's columns from the input's"),
         under.line("R under the diagonal, words not 0"),
         negative.line("R's first 15 diagonal words, negative"),
-        verdict_of_all(in_order).to_string(),
+        remark(&columns, verdict).to_string(),
+        verdict_text(verdict),
     ];
-    (text.concat(), in_order)
+    text.concat()
 }
 
-fn verdict_of_all(in_order: bool) -> &'static str {
-    if in_order {
-        "all within their limits\n"
-    } else {
-        "not all within their limits\n"
+/// What is said of a yes where the columns of R are outside their limit, and else nothing.
+fn remark(columns: &Worst, verdict: Result<bool, Refusal>) -> &'static str {
+    if verdict != Ok(true) || columns.within() {
+        return "";
     }
+    "R's columns do not count for a yes, but those of the engine's own results are within their limit\n"
 }

@@ -9,16 +9,6 @@ pub enum Failure {
     Input(String),
 }
 
-impl Failure {
-    /// The exit status that says so.
-    pub fn status(&self) -> u8 {
-        match self {
-            Failure::Usage(_) => 2,
-            Failure::Input(_) => 1,
-        }
-    }
-}
-
 impl Display for Failure {
     fn fmt(&self, f: &mut Formatter<'_>) -> fmt::Result {
         match self {

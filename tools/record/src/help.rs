@@ -3,12 +3,13 @@
 pub const VERSION: &str = concat!("record ", env!("CARGO_PKG_VERSION"), "\n");
 
 pub const ALL: &str = "\
-Makes, shows and checks the records of the eight-antenna QR engine, and solves for weights.
+Makes, shows, checks and verifies the records of the eight-antenna QR engine, and solves for weights.
 
 Usage:
   record pack IN.txt OUT.bin     makes a matrix record from a text of 8 by 8 complex numbers
   record show FILE               prints a matrix, result or refusal record
-  record check MATRIX RESULT     computes the errors of a result and shows them against their limits
+  record check MATRIX RESULT     shows the errors of a result against their limits, and the verdict
+  record verify MATRIX RESULT    says yes or no: whether a result is right for a matrix
   record weights RESULT TARGETS  prints the weights that a result and eight targets give
   record COMMAND --help          says more about a command
   record --version               prints the version
@@ -16,8 +17,8 @@ Usage:
 A file name '-' stands for standard input, and as OUT.bin for standard output. Behind '--' a file name
 may begin with '-'.
 
-Exit status: 0 when all is in order, 1 when a file is wrong, a limit is passed or the output could not
-be written, 2 when the command line is wrong.
+Exit status: 0 when all is in order, 1 when a file is wrong, a verdict is not yes or the output could
+not be written, 2 when the command line is wrong. Of verify: 0 for yes, 1 for no, 2 for neither.
 ";
 
 pub const PACK: &str = "\
@@ -69,10 +70,29 @@ MATRIX, and shows each figure against its limit:
   every two columns of R         their sum of products within 2^44 of 2^26 times that of the input's
   R                              0 under the diagonal, its first 15 diagonal words not negative
 
+The figures are the tool's own, in which nothing is proved. The last line is the verdict of the proved
+call, hubqr_verify: yes when Q times R and the rows of Q are within their limits, otherwise no. The
+columns of R do not count for a yes; those of the engine's own results are within their limit too.
+Where R breaks its rule the engine refuses the result, which is neither yes nor no.
+
 A matrix in which no antenna was heard has no result, since the engine refuses it.
 
-Exit status: 0 when all are within their limits, 1 when one is not, when a file is no such record or
-when the engine refuses the matrix.
+Exit status: 0 for yes, 1 for no, when the engine refuses a record or when a file is no such record.
+";
+
+pub const VERIFY: &str = "\
+Usage: record verify MATRIX RESULT
+
+Says yes when the result record RESULT, whoever wrote it, is right for the matrix record MATRIX: when
+every entry of Q times R and every two rows of Q are within their limits, as 'record check --help' has
+them. Otherwise it says no. The verdict is that of the proved call, hubqr_verify; 'record check' shows
+the figures as well.
+
+A record that the engine refuses gets neither a yes nor a no, and the reason is printed. The matrix is
+tested first, then the result.
+
+Exit status: 0 for yes, 1 for no, 2 for neither: when the engine refuses a record, a file cannot be
+read, the output cannot be written or the command line is wrong.
 ";
 
 pub const WEIGHTS: &str = "\
@@ -90,8 +110,8 @@ Line k has the target of row k in units of 1/32768, and of the weight of antenna
 imaginary part, the magnitude, and the phase in degrees. Parts and magnitudes are 64-bit floats,
 printed in nine significant digits; a zero keeps its sign, and a weight that is 0 has no phase.
 
-Nothing in this tool is proved. It takes the weights from the independent implementation in
-reference/; the proved call, hubqr_weights, is tested to give the same bits.
+What is printed is not proved: it comes from the independent implementation in reference/. The proved
+call, hubqr_weights, is tested to give the same bits.
 
 A record that the engine refuses has no weights: the reason is printed, and the exit status is 1.
 ";

@@ -1,5 +1,5 @@
-//! `record`: makes, shows and checks the records of the eight-antenna QR engine, and solves for
-//! weights.
+//! `record`: makes, shows, checks and verifies the records of the eight-antenna QR engine, and solves
+//! for weights.
 mod arguments;
 mod check;
 mod complex;
@@ -19,6 +19,7 @@ mod show;
 mod standard_output;
 mod targets;
 mod text;
+mod verify;
 mod weights;
 
 use std::env;
@@ -27,6 +28,9 @@ use std::process::ExitCode;
 
 use arguments::Command;
 use failure::Failure;
+
+/// The exit status that says that the command line is wrong.
+const USAGE_STATUS: u8 = 2;
 
 /// What a command has for standard output.
 pub enum Output {
@@ -63,15 +67,21 @@ impl Report {
 }
 
 fn main() -> ExitCode {
-    let outcome = Command::parse(env::args_os().skip(1)).and_then(perform);
-    match outcome.and_then(deliver) {
-        Ok(true) => ExitCode::SUCCESS,
-        Ok(false) => ExitCode::from(1),
+    let command = Command::parse(env::args_os().skip(1));
+    let undone = command.as_ref().map_or(USAGE_STATUS, Command::undone);
+    let status = match command.and_then(perform).and_then(deliver) {
+        Ok(Some(true)) => 0,
+        Ok(Some(false)) => 1,
+        Ok(None) => undone,
         Err(failure) => {
             say(&failure.to_string());
-            ExitCode::from(failure.status())
+            match failure {
+                Failure::Usage(_) => USAGE_STATUS,
+                Failure::Input(_) => undone,
+            }
         }
-    }
+    };
+    ExitCode::from(status)
 }
 
 fn perform(command: Command) -> Result<Report, Failure> {
@@ -81,17 +91,18 @@ fn perform(command: Command) -> Result<Report, Failure> {
         Command::Pack { text, record } => pack::pack(&text, &record),
         Command::Show { file } => show::show(&file),
         Command::Check { matrix, result } => check::check(&matrix, &result),
+        Command::Verify { matrix, result } => verify::verify(&matrix, &result),
         Command::Weights { result, targets } => weights::weights(&result, &targets),
     }
 }
 
-/// Writes the report, and answers whether all is in order.
-fn deliver(report: Report) -> Result<bool, Failure> {
+/// Writes the report, and answers whether all is in order, or nothing where nobody read it to its end.
+fn deliver(report: Report) -> Result<Option<bool>, Failure> {
     let arrived = standard_output::write(&report.output)?;
     if let Some(remark) = report.remark {
         say(&remark);
     }
-    Ok(arrived && report.in_order)
+    Ok(arrived.then_some(report.in_order))
 }
 
 /// Writes a line to standard error. Where that fails there is nobody left to tell.

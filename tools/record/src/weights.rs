@@ -3,14 +3,14 @@ use std::ffi::OsStr;
 
 use hubqr::Refusal;
 
-use crate::factors::{self, Factors};
 use crate::failure::Failure;
 use crate::figures::{fixed, nine_digits};
 use crate::matrix::SIZE;
+use crate::records::{self, refused_in_result};
 use crate::refusal::refused_with;
 use crate::show::element_text;
 use crate::targets::{self, Targets};
-use crate::{files, records, Report};
+use crate::{files, Report};
 
 /// The real and the imaginary part of an antenna's weight.
 type Weight = (f64, f64);
@@ -21,7 +21,7 @@ pub fn weights(result: &OsStr, targets: &OsStr) -> Result<Report, Failure> {
     let targets = files::read_text(targets, "list of eight targets", targets::parse)?;
     let weights = solved(&record, &targets).map_err(|refusal| {
         let why = refused_with(refusal);
-        files::named(result, format!("{}: {why}", refused_part(&record)))
+        files::named(result, format!("{}: {why}", refused_in_result(&record)))
     })?;
     Ok(Report::text(weights_text(&targets, &weights), true))
 }
@@ -32,23 +32,6 @@ fn solved(record: &[u8], targets: &Targets) -> Result<[Weight; SIZE], Refusal> {
     match Refusal::try_from(reply.number) {
         Ok(refusal) => Err(refusal),
         Err(_accepted) => Ok(reply.weights),
-    }
-}
-
-/// What it is that the engine refuses in a record: its first byte, its length or a word of R.
-fn refused_part(record: &[u8]) -> String {
-    match record {
-        [] => "empty".into(),
-        [factors::KIND, ..] => match record.try_into() {
-            Ok(record) => {
-                let factors = Factors::from_record(record);
-                let broken = factors.rule_breaks().first();
-                let place = broken.or_else(|| factors.zero_on_diagonal());
-                factors.word_of_r(place.expect("nothing else is refused in such a record"))
-            }
-            Err(_) => records::has_length(record, "a result", factors::BYTES),
-        },
-        [kind, ..] => format!("the kind byte is {kind:02X}, a result record begins with 02"),
     }
 }
 

@@ -7,4 +7,5 @@ mod job;
 mod lent;
 mod refusal;
 mod refused;
+mod verify;
 mod weights;

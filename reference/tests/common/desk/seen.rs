@@ -7,6 +7,7 @@ use reference::desk::{Desk, DeskReply};
 
 use super::role::{self, FITTER, OPERATOR};
 use super::{Call, Fetched};
+use crate::common::refusals;
 
 #[derive(Debug, Default)]
 pub struct Seen {
@@ -106,10 +107,7 @@ impl Seen {
         let calls: Vec<String> = calls
             .map(|(name, (accepted, made))| format!("{accepted} of {made} {name}"))
             .collect();
-        let refusals = self.refusals.iter();
-        let refusals: String = refusals
-            .map(|(number, count)| format!(", {count} refused with {number}"))
-            .collect();
+        let refusals = refusals::listed(&self.refusals);
         println!("\n{test}: accepted {}{refusals}", calls.join(", "));
         if self.roles.keys().any(|name| *name != role::name(OPERATOR)) {
             self.print_roles();
@@ -140,8 +138,7 @@ impl Seen {
 
     /// Fails the test unless these are the numbers that were answered.
     pub fn assert_numbers(&self, numbers: &[u8]) {
-        let seen: Vec<u8> = self.refusals.keys().copied().collect();
-        assert_eq!(seen, numbers, "the numbers answered, and those due");
+        refusals::assert_numbers(&self.refusals, numbers);
     }
 
     /// A call, with the role and the desk that it was handed.

@@ -7,4 +7,5 @@ mod samples;
 mod show;
 mod tool;
 mod usage;
+mod verify;
 mod weights;

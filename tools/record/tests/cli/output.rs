@@ -12,34 +12,36 @@ fn folder(name: &str) -> Folder {
     folder
 }
 
-const COMMANDS: [&[&str]; 7] = [
-    &["pack", "m.txt", "-"],
-    &["pack", "m.txt", "new.bin"],
-    &["show", "m.bin"],
-    &["check", "m.bin", "r.bin"],
-    &["weights", "r.bin", "t.txt"],
-    &["--help"],
-    &["--version"],
+/// Commands that are in order, and the status of each where its output cannot be written.
+const COMMANDS: [(&[&str], i32); 8] = [
+    (&["pack", "m.txt", "-"], 1),
+    (&["pack", "m.txt", "new.bin"], 1),
+    (&["show", "m.bin"], 1),
+    (&["check", "m.bin", "r.bin"], 1),
+    (&["verify", "m.bin", "r.bin"], 2),
+    (&["weights", "r.bin", "t.txt"], 1),
+    (&["--help"], 1),
+    (&["--version"], 1),
 ];
 
-fn assert_failed(outcome: &Outcome, message: &str) {
+fn assert_failed(outcome: &Outcome, status: i32, message: &str) {
     assert_eq!(outcome.stderr, format!("record: {message}\n"));
-    assert_eq!(outcome.status, 1);
+    assert_eq!(outcome.status, status);
 }
 
 #[test]
 fn a_closed_output_is_a_failure() {
     let folder = folder("output-closed");
     let message = "standard output is closed, so nothing could be written to it";
-    for arguments in COMMANDS {
-        assert_failed(&folder.run_with_output_closed(arguments), message);
+    for (arguments, status) in COMMANDS {
+        assert_failed(&folder.run_with_output_closed(arguments), status, message);
     }
 }
 
 #[test]
 fn an_output_that_goes_nowhere_is_none() {
     let folder = folder("output-null");
-    for arguments in COMMANDS {
+    for (arguments, _) in COMMANDS {
         let null = std::fs::OpenOptions::new()
             .read(true)
             .write(true)
@@ -52,7 +54,7 @@ fn an_output_that_goes_nowhere_is_none() {
 #[test]
 fn a_full_device_is_a_failure() {
     let folder = folder("output-full");
-    for arguments in COMMANDS {
+    for (arguments, status) in COMMANDS {
         let full = std::fs::OpenOptions::new().write(true).open("/dev/full");
         let output = folder.command(arguments).stdout(full.unwrap()).output();
         let output = output.unwrap();
@@ -61,20 +63,21 @@ fn a_full_device_is_a_failure() {
             message.starts_with("record: standard output: "),
             "{message}"
         );
-        assert_eq!(output.status.code(), Some(1), "{arguments:?}");
+        assert_eq!(output.status.code(), Some(status), "{arguments:?}");
     }
 }
 
 #[test]
 fn a_reader_that_stops_early_is_noticed_quietly() {
     let folder = folder("output-unread");
-    for (arguments, input) in [
-        (&["show", "-"][..], "m.bin"),
-        (&["check", "m.bin", "-"], "r.bin"),
-        (&["weights", "r.bin", "-"], "t.txt"),
+    for (arguments, input, status) in [
+        (&["show", "-"][..], "m.bin", 1),
+        (&["check", "m.bin", "-"], "r.bin", 1),
+        (&["verify", "m.bin", "-"], "r.bin", 2),
+        (&["weights", "r.bin", "-"], "t.txt", 1),
     ] {
         let outcome = folder.run_with_output_unread(arguments, &folder.read(input));
-        assert_eq!((outcome.status, outcome.stderr.as_str()), (1, ""));
+        assert_eq!((outcome.status, outcome.stderr.as_str()), (status, ""));
     }
 }
 
@@ -82,5 +85,5 @@ fn a_reader_that_stops_early_is_noticed_quietly() {
 fn a_record_that_nobody_takes_is_a_failure() {
     let folder = folder("output-untaken");
     let outcome = folder.run_with_output_unread(&["pack", "-", "-"], &folder.read("m.txt"));
-    assert_failed(&outcome, "standard output: Broken pipe (os error 32)");
+    assert_failed(&outcome, 1, "standard output: Broken pipe (os error 32)");
 }

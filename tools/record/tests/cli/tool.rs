@@ -10,6 +10,10 @@ use hubqr::{AREA_WORDS, KIND_MATRIX, MATRIX_RECORD_BYTES, RESULT_RECORD_BYTES};
 /// No line that is printed for people is longer, but for sentences.
 pub const WIDEST: usize = 100;
 
+/// The verdicts of the engine, as check and verify print them.
+pub const YES: &str = "yes: Q times R and the rows of Q are within their limits";
+pub const NO: &str = "no: Q times R or the rows of Q are outside their limits";
+
 /// What a run of the program left.
 pub struct Outcome {
     pub status: i32,

@@ -4,11 +4,12 @@ use crate::tool::{matrix_record, Folder};
 fn help_is_printed() {
     let folder = Folder::new("usage-help");
     for (arguments, start) in [
-        (&["--help"][..], "Makes, shows and checks the records"),
-        (&["-h"], "Makes, shows and checks the records"),
+        (&["--help"][..], "Makes, shows, checks and verifies"),
+        (&["-h"], "Makes, shows, checks and verifies"),
         (&["pack", "--help"], "Usage: record pack IN.txt OUT.bin\n"),
         (&["show", "--help"], "Usage: record show FILE\n"),
         (&["check", "--help"], "Usage: record check MATRIX RESULT\n"),
+        (&["verify", "-h"], "Usage: record verify MATRIX RESULT\n"),
         (&["weights", "-h"], "Usage: record weights RESULT TARGETS\n"),
     ] {
         let outcome = folder.run(arguments);
@@ -24,6 +25,7 @@ fn a_wrong_command_line_is_an_error_of_status_2() {
     let show = "usage: record show FILE";
     let pack = "usage: record pack IN.txt OUT.bin";
     let check = "usage: record check MATRIX RESULT";
+    let verify = "usage: record verify MATRIX RESULT";
     let weights = "usage: record weights RESULT TARGETS";
     for (arguments, message) in [
         (&[][..], "no command given".to_string()),
@@ -49,6 +51,14 @@ fn a_wrong_command_line_is_an_error_of_status_2() {
         (
             &["check", "a"],
             format!("2 file names needed, 1 given; {check}"),
+        ),
+        (
+            &["verify", "a", "b", "c"],
+            format!("2 file names needed, 3 given; {verify}"),
+        ),
+        (
+            &["verify", "a", "--quiet", "b"],
+            format!("unknown option '--quiet'; {verify}"),
         ),
         (
             &["weights", "a", "b", "c"],

@@ -15,6 +15,14 @@ pub fn triangle(mut word: impl FnMut() -> i32, mut diagonal: impl FnMut(usize) -
     area
 }
 
+/// What is asked for row by row where R has one thing and Q another: 16 times for R, then for Q.
+pub fn by_halves<T: Copy>(r: T, q: T) -> impl Iterator<Item = T> {
+    [r, q]
+        .into_iter()
+        .cycle()
+        .flat_map(|half| [half; REAL_SIZE])
+}
+
 /// Anything that is accepted, with the last diagonal word above 0, too.
 pub fn any_accepted(random: &mut Random) -> WorkArea {
     let diagonal: [i32; REAL_SIZE] = std::array::from_fn(|_| random.word().saturating_abs().max(1));

@@ -1,0 +1,1 @@
+// Theorems on verdicts: definitions and laws, and no code.
