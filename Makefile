@@ -25,7 +25,7 @@ CFLAGS := -std=c11 -Wall -Wextra -Werror -pedantic -Iinclude
 CARGO := cargo --quiet
 SOURCES := crates.txt $(shell find crates -type f)
 TOOLS := build/cargo/release
-EXAMPLES := $(TOOLS)/instalments $(TOOLS)/snapshots $(TOOLS)/weights $(TOOLS)/verify $(TOOLS)/desk
+EXAMPLES := $(TOOLS)/instalments $(TOOLS)/snapshots $(TOOLS)/weights $(TOOLS)/verify $(TOOLS)/log $(TOOLS)/desk
 # rt waits for each batch of its checks, and they are of unequal length: with two jobs for each processor it waits less.
 RT_JOBS ?= $(shell n=$$(nproc 2> /dev/null) || n=1; echo $$((2 * n)))
 export RT_JOBS
@@ -134,11 +134,13 @@ check-examples: build/libhubqr.a build/qr build/page $(EXAMPLES) $(TOOLS)/record
 	$(CC) $(CFLAGS) -O2 examples/snapshots.c build/libhubqr.a -o build/snapshots
 	$(CC) $(CFLAGS) -O2 examples/weights.c build/libhubqr.a -o build/weights
 	$(CC) $(CFLAGS) -O2 examples/verify.c build/libhubqr.a -o build/verify
+	$(CC) $(CFLAGS) -O2 examples/log.c build/libhubqr.a -o build/log
 	$(CC) $(CFLAGS) -O2 examples/desk.c build/libhubqr.a -o build/desk
 	sh examples/compare.sh build/instalments $(TOOLS)/instalments
 	sh examples/test-snapshots.sh build/snapshots $(TOOLS)/snapshots build/qr $(TOOLS)/record
 	sh examples/test-weights.sh build/weights $(TOOLS)/weights build/qr $(TOOLS)/record
 	sh examples/test-verify.sh build/verify $(TOOLS)/verify build/qr $(TOOLS)/record
+	sh examples/test-log.sh build/log $(TOOLS)/log build/qr $(TOOLS)/record
 	sh examples/test-desk.sh build/desk $(TOOLS)/desk
 	sh examples/test-run.sh build/qr build/page $(TOOLS)/record
 

@@ -25,7 +25,7 @@ const NARROW: Version = Version {
     sources: &["narrow.c", "wide.c", "calls.c"],
 };
 
-const VERSIONS: [Version; 8] = [
+const VERSIONS: [Version; 9] = [
     Version {
         name: "plain",
         options: &["-DROTATE=rotate_plain"],
@@ -68,6 +68,12 @@ const VERSIONS: [Version; 8] = [
         processor: BASELINE,
         sources: &["desk.c"],
     },
+    Version {
+        name: "log",
+        options: &["-I../include"],
+        processor: BASELINE,
+        sources: &["log.c"],
+    },
 ];
 
 fn main() {
@@ -98,10 +104,12 @@ fn watch() {
         "weights.h",
         "verify.h",
         "desk.h",
+        "log.h",
         "../include/hubqr.h",
         "../include/hubqr_base.h",
         "../include/hubqr_covariance.h",
         "../include/hubqr_desk.h",
+        "../include/hubqr_log.h",
         "../include/hubqr_verify.h",
         "../include/hubqr_weights.h",
         "double.h",

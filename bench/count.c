@@ -5,10 +5,13 @@
  * by Whole. With the argument single: MATRICES random matrices by Load and a Run of allowance 1 at each turn number. With the
  * argument desk: MATRICES Runs of request 0 and as many settings of shares, by the engine's desk and by that in C. With the argument
  * loaded: MATRICES hand-ins that are loaded, and as many Fetches while none waits, by both desks; with the argument waiting: as many
- * hand-ins that wait, and Fetches that bring one in.
+ * hand-ins that wait, and Fetches that bring one in. With the argument heard or result: MATRICES such entries added to a log of
+ * 90 days of a hub, by the engine and by the version in C; with the argument today or tomorrow: as many sweeps of that log, on
+ * the last of these days and on the next one; with the argument read: as many of its entries read.
  */
 #include "covariance.h"
 #include "desk.h"
+#include "log.h"
 #include "records.h"
 #include "verify.h"
 #include "weights.h"
@@ -215,6 +218,98 @@ static int at_hand_in(int waiting)
     return 1;
 }
 
+/* What a hub's log holds at the end of 90 days, from day 0 on, and room for a result more. */
+enum {
+    LAST_DAY = 89,
+    LOG_ROOM = 90 * HUBQR_LOG_HEARD_BYTES + 10 * HUBQR_LOG_REFUSAL_BYTES + 8 * HUBQR_LOG_RESULT_BYTES,
+};
+
+struct hub_log {
+    size_t used;
+    uint8_t buffer[LOG_ROOM];
+};
+
+static void put_entry(struct hub_log *log, uint8_t kind, uint8_t day, size_t body_len)
+{
+    uint8_t *entry = log->buffer + log->used;
+    memcpy(entry, (uint8_t[HUBQR_LOG_HEAD_BYTES]){kind, 0, 0, 0, day}, HUBQR_LOG_HEAD_BYTES);
+    draw(entry + HUBQR_LOG_HEAD_BYTES, body_len);
+    log->used += HUBQR_LOG_HEAD_BYTES + body_len;
+}
+
+/* Each day has a heard byte and a result, and every third one a refusal. What is too old on the last day is left out. */
+static void fill_log(struct hub_log *log)
+{
+    log->used = 0;
+    for (uint8_t day = 0; day <= LAST_DAY; day++) {
+        put_entry(log, HUBQR_LOG_HEARD, day, 1);
+        if (day % 3 == 0 && LAST_DAY < day + HUBQR_LOG_REFUSAL_DAYS) {
+            put_entry(log, HUBQR_LOG_REFUSAL, day, 1);
+        }
+        if (LAST_DAY < day + HUBQR_LOG_RESULT_DAYS) {
+            put_entry(log, HUBQR_LOG_RESULT, day, HUBQR_RESULT_RECORD_BYTES);
+        }
+    }
+}
+
+/* Answers whether both replies accept and leave the same log. */
+static int same_log(struct hubqr_log_reply by_engine, const struct hub_log *log, struct hubqr_log_reply in_c,
+                    const struct hub_log *log_in_c)
+{
+    return by_engine.number == HUBQR_ACCEPTED && in_c.number == HUBQR_ACCEPTED && by_engine.used == in_c.used
+        && memcmp(log->buffer, log_in_c->buffer, LOG_ROOM) == 0;
+}
+
+/* Answers whether both logs accept entries of a kind. */
+static int logged(uint32_t kind, size_t body_len)
+{
+    static struct hub_log log, log_in_c;
+    fill_log(&log);
+    log_in_c = log;
+    for (int k = 0; k < MATRICES; k++) {
+        draw(buffer, body_len);
+        struct hubqr_log_reply by_engine = hubqr_log_add(kind, LAST_DAY, buffer, body_len, log.used, log.buffer, LOG_ROOM);
+        struct hubqr_log_reply in_c = NAME(log_add)(kind, LAST_DAY, buffer, body_len, log.used, log_in_c.buffer, LOG_ROOM);
+        if (!same_log(by_engine, &log, in_c, &log_in_c)) {
+            return 0;
+        }
+    }
+    return 1;
+}
+
+/* Answers whether both logs are swept on a day in the same way. */
+static int swept(uint32_t day)
+{
+    static struct hub_log filled, log, log_in_c;
+    fill_log(&filled);
+    for (int k = 0; k < MATRICES; k++) {
+        log = log_in_c = filled;
+        struct hubqr_log_reply by_engine = hubqr_log_sweep(day, log.used, log.buffer, LOG_ROOM);
+        struct hubqr_log_reply in_c = NAME(log_sweep)(day, log.used, log_in_c.buffer, LOG_ROOM);
+        if (!same_log(by_engine, &log, in_c, &log_in_c)) {
+            return 0;
+        }
+    }
+    return 1;
+}
+
+/* Answers whether the same entries are read from the log by both. */
+static int read_log(void)
+{
+    static struct hub_log log;
+    fill_log(&log);
+    size_t at = 0;
+    for (int k = 0; k < MATRICES; k++) {
+        struct hubqr_log_entry by_engine = hubqr_log_next(at, log.used, log.buffer, LOG_ROOM);
+        struct hubqr_log_entry in_c = NAME(log_next)(at, log.used, log.buffer, LOG_ROOM);
+        if (by_engine.number != HUBQR_ACCEPTED || in_c.number != HUBQR_ACCEPTED || by_engine.next != in_c.next) {
+            return 0;
+        }
+        at = by_engine.next < log.used ? by_engine.next : 0;
+    }
+    return 1;
+}
+
 /* Answers whether every call accepts what it is handed. */
 static int all_calls(void)
 {
@@ -230,6 +325,24 @@ static int all_calls(void)
         }
     }
     return added();
+}
+
+/* Answers whether the argument names what can be counted at the log, and all its calls are accepted. */
+static int at_log(const char *argument)
+{
+    if (strcmp(argument, "heard") == 0) {
+        return logged(HUBQR_LOG_HEARD, 1);
+    }
+    if (strcmp(argument, "result") == 0) {
+        return logged(HUBQR_LOG_RESULT, HUBQR_RESULT_RECORD_BYTES);
+    }
+    if (strcmp(argument, "today") == 0) {
+        return swept(LAST_DAY);
+    }
+    if (strcmp(argument, "tomorrow") == 0) {
+        return swept(LAST_DAY + 1);
+    }
+    return strcmp(argument, "read") == 0 && read_log();
 }
 
 /* Answers whether the argument names what can be counted, and all its calls are accepted. */
@@ -250,7 +363,10 @@ static int counted(const char *argument)
     if (strcmp(argument, "loaded") == 0 || strcmp(argument, "waiting") == 0) {
         return at_hand_in(argument[0] == 'w');
     }
-    return strcmp(argument, "diagonal") == 0 && emptier(make_diagonal);
+    if (strcmp(argument, "diagonal") == 0) {
+        return emptier(make_diagonal);
+    }
+    return at_log(argument);
 }
 
 int main(int argc, char **argv)

@@ -13,13 +13,14 @@ snapshots=1000
 scratch=$(mktemp -d)
 trap 'rm -rf "$scratch"' EXIT
 # The versions in C are compiled as the benchmark compiles them. Only the weights have products and differences that could be fused.
-for version in covariance weights verify desk; do
+for version in covariance weights verify desk log; do
     gcc -std=c11 -O3 -march=x86-64 -ffp-contract=off -Wall -Wextra -Iinclude -DVERSION=c -c bench/$version.c -o "$scratch/$version.o"
 done
 cc -std=c11 -O2 -Wall -Wextra -Iinclude -DMATRICES=$matrices -DSNAPSHOTS=$snapshots -DVERSION=c \
-    bench/count.c "$scratch/covariance.o" "$scratch/weights.o" "$scratch/verify.o" "$scratch/desk.o" "$archive" -o "$scratch/count"
-# What callgrind counts of matrices of each kind, of single turns and at the desk goes into a file of that name.
-for kind in full half-empty diagonal single desk loaded waiting; do
+    bench/count.c "$scratch/covariance.o" "$scratch/weights.o" "$scratch/verify.o" "$scratch/desk.o" "$scratch/log.o" "$archive" \
+    -o "$scratch/count"
+# What callgrind counts of matrices of each kind, of single turns, at the desk and at the log goes into a file of that name.
+for kind in full half-empty diagonal single desk loaded waiting heard result today tomorrow read; do
     valgrind --quiet --tool=callgrind --callgrind-out-file="$scratch/calls" "$scratch/count" $kind
     callgrind_annotate --inclusive=yes --threshold=100 "$scratch/calls" >"$scratch/$kind"
 done
@@ -51,9 +52,9 @@ awk -v matrices=$matrices -v snapshots=$snapshots -v style="${1:-plain}" '
         gsub(",", "", $1)
         count[name] = $1 / snapshots
     }
-    match($0, /(hubqr|c)_(weights|verify|desk_(run|set_shares|hand_in|fetch))/) {
+    match($0, /(hubqr|c)_(weights|verify|desk_(run|set_shares|hand_in|fetch)|log_(add|sweep|next))/) {
         name = substr($0, RSTART, RLENGTH)
-        if (name ~ /(hand_in|fetch)$/) name = name kind
+        if (name ~ /(hand_in|fetch|add|sweep)$/) name = name kind
         gsub(",", "", $1)
         count[name] = $1 / matrices
     }
@@ -82,5 +83,12 @@ awk -v matrices=$matrices -v snapshots=$snapshots -v style="${1:-plain}" '
         compared("Hand-in, waits", count["hubqr_desk_hand_in, waiting"], count["c_desk_hand_in, waiting"])
         compared("Desk, Fetch", count["hubqr_desk_fetch, loaded"], count["c_desk_fetch, loaded"])
         compared("Fetch, brings in", count["hubqr_desk_fetch, waiting"], count["c_desk_fetch, waiting"])
+        compared("Log, heard byte", count["hubqr_log_add, heard"], count["c_log_add, heard"])
+        compared("Log, result", count["hubqr_log_add, result"], count["c_log_add, result"])
+        compared("Sweep, keeps all", count["hubqr_log_sweep, today"], count["c_log_sweep, today"])
+        compared("Sweep, next day", count["hubqr_log_sweep, tomorrow"], count["c_log_sweep, tomorrow"])
+        compared("Log, reading", count["hubqr_log_next"], count["c_log_next"])
     }' "$scratch/full" kind=', half-empty' "$scratch/half-empty" kind=', diagonal' "$scratch/diagonal" \
-    kind=', single' "$scratch/single" kind=', desk' "$scratch/desk" kind=', loaded' "$scratch/loaded" kind=', waiting' "$scratch/waiting"
+    kind=', single' "$scratch/single" kind=', desk' "$scratch/desk" kind=', loaded' "$scratch/loaded" kind=', waiting' "$scratch/waiting" \
+    kind=', heard' "$scratch/heard" kind=', result' "$scratch/result" kind=', today' "$scratch/today" \
+    kind=', tomorrow' "$scratch/tomorrow" kind=', read' "$scratch/read"

@@ -19,6 +19,8 @@ static ucontext_t host;
 static uint8_t record[HUBQR_MATRIX_RECORD_BYTES];
 static int32_t area[HUBQR_AREA_WORDS];
 static uint8_t result[HUBQR_RESULT_RECORD_BYTES];
+static uint8_t log_buffer[2 * HUBQR_LOG_RESULT_BYTES];
+static const uint8_t heard = 0xff;
 static struct hubqr_snapshot samples;
 static struct hubqr_sums sums;
 static struct hubqr_desk desk;
@@ -34,6 +36,8 @@ static struct {
     struct hubqr_add_reply add;
     struct hubqr_verdict verdict;
     struct hubqr_weights_reply weights;
+    struct hubqr_log_reply log;
+    struct hubqr_log_entry entry;
     struct hubqr_desk_reply desk;
     struct hubqr_desk_load_reply desk_load;
     struct hubqr_desk_run_reply desk_run;
@@ -66,6 +70,13 @@ CALL(none_added, sums = hubqr_sums_none(), HUBQR_ACCEPTED)
 CALL(add, reply.add = hubqr_add_snapshot(samples, sums), reply.add.number)
 CALL(write_matrix, reply.number = hubqr_write_matrix(reply.add.sums, record, sizeof record), reply.number)
 CALL(weights, reply.weights = hubqr_weights(result, sizeof result, samples), reply.weights.number)
+CALL(log_heard, reply.log = hubqr_log_add(HUBQR_LOG_HEARD, 0, &heard, 1, 0, log_buffer, sizeof log_buffer), reply.log.number)
+CALL(log_result,
+     reply.log = hubqr_log_add(HUBQR_LOG_RESULT, 1, result, sizeof result, reply.log.used, log_buffer, sizeof log_buffer),
+     reply.log.number)
+CALL(log_next, reply.entry = hubqr_log_next(0, reply.log.used, log_buffer, sizeof log_buffer), reply.entry.number)
+CALL(log_sweep, reply.log = hubqr_log_sweep(HUBQR_LOG_HEARD_DAYS, reply.log.used, log_buffer, sizeof log_buffer),
+     reply.log.number)
 CALL(desk_new, desk = hubqr_desk_new(), HUBQR_ACCEPTED)
 CALL(desk_set_shares, reply.desk = hubqr_desk_set_shares(HUBQR_OPERATOR, desk, shares), reply.desk.number)
 CALL(desk_begin, reply.desk = hubqr_desk_begin(HUBQR_OPERATOR, reply.desk.desk), reply.desk.number)
@@ -103,6 +114,10 @@ static const struct {
     {"Adding a snapshot", add},
     {"Writing the record", write_matrix},
     {"Weights", weights},
+    {"Log, heard byte", log_heard},
+    {"Log, result", log_result},
+    {"Log, reading", log_next},
+    {"Sweep", log_sweep},
     {"A new desk", desk_new},
     {"Setting shares", desk_set_shares},
     {"Beginning a round", desk_begin},

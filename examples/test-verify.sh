@@ -94,7 +94,7 @@ yes=$boards/double.bin
 no=$boards/coarse-q.bin
 printed 0 "$own: yes\n$yes: yes\n$own: yes\n" $matrix $own $yes $own
 printed 1 "$own: yes\n$no: no\n$yes: yes\n" $matrix $own $no $yes
-empty="$results/empty.bin: refused with number 1: the record is empty or its kind byte is not the one expected"
+empty="$results/empty.bin: refused with number 1: the record is empty or its kind byte is not the one expected, or a log has no such kind of entry"
 printed 2 "$no: no\n$empty\n$yes: yes\n" $matrix $no $results/empty.bin $yes
 printed 2 "$empty\n$no: no\n" $matrix $results/empty.bin $no
 

@@ -18,6 +18,8 @@
  *                    own of the turns of a round, 120 at most. The next matrix of a sector may be handed in early. Each call is
  *                    made for a role: a viewer is answered the heard byte and nothing else, a fitter gets the result record too,
  *                    and the operator may make every call.
+ *   For a log:       hubqr_log.h, which this header includes besides, keeps results, refusals and heard bytes in a lent buffer,
+ *                    for seven, thirty and ninety days.
  *
  * Records (numbers are two's complement, high byte first)
  *   Matrix record, 257 bytes:    HUBQR_KIND_MATRIX, then 64 elements row by row, each a 16-bit real part and a 16-bit imaginary
@@ -68,27 +70,31 @@
  *   A call answers by value: a struct, or the number alone where there is nothing else to answer. Each call tests what it is
  *   handed, in the order given with it. The reply's `number` is that of the first test that fails, or HUBQR_ACCEPTED. A refused
  *   call changes no word of the area and no byte of the buffer, and the other fields of its reply are 0, except that hubqr_run
- *   answers the job it was handed, hubqr_add_snapshot the sums, and each call of hubqr_desk.h the desk. hubqr_base.h, which all
- *   headers include, lists the refusals; hubqr_refusal_words says a number in words.
+ *   answers the job it was handed, hubqr_add_snapshot the sums, and each call of hubqr_desk.h the desk. A log's used count is no
+ *   exception: a refused call answers 0, and hubqr_log.h says why that 0 must not be kept. hubqr_base.h, which all headers
+ *   include, lists the refusals; hubqr_refusal_words says a number in words.
  *
  * Ownership and threads
- *   The caller owns every record, area and buffer, before, during and after a call. The library keeps no pointer, has no state of
- *   its own and allocates nothing. All calls are reentrant: threads may call at the same time on different areas and buffers, and
- *   may share a record, since records are only read. While a call lasts nobody else may write to what it was lent.
+ *   The caller owns every record, body, area and buffer, before, during and after a call. The library keeps no pointer, has no
+ *   state of its own and allocates nothing. All calls are reentrant: threads may call at the same time on different areas and
+ *   buffers, and may share a record or a body, since these are only read, and for hubqr_log_next, which only reads it, a log's
+ *   buffer. While a call lasts nobody else may write to what it was lent.
  *
  * Aliasing
- *   The record, the area and the buffer that are lent to a call may not overlap each other. The two records that hubqr_verify is
- *   lent may, since nothing is written.
+ *   The record, the area and the buffer that are lent to a call may not overlap each other, nor may the body and the buffer that
+ *   hubqr_log_add is lent. The two records that hubqr_verify is lent may, since nothing is written.
  *
  * Null
- *   A record, an area and a buffer may be null exactly when their length is 0; nothing is then read or written through the
- *   pointer and the call is refused.
+ *   A record, a body, an area and a buffer may be null exactly when their length is 0; nothing is then read or written through
+ *   the pointer and the call is refused. But a buffer of length 0 with used count 0 is a log without entries, which
+ *   hubqr_log_sweep and hubqr_log_next accept.
  *
  * Lengths
- *   Lengths are true lengths: bytes for records and buffers, words for areas. An area may be longer than HUBQR_AREA_WORDS and a
- *   buffer longer than the record that is written into it; what lies behind is neither read nor written. A record has to have
- *   exactly its length. Compilers that know the attribute `access`, as gcc does, report a length that the object behind the
- *   pointer does not have, where they can see the object: `sizeof area` handed over for words, for instance.
+ *   Lengths are true lengths: bytes for records, bodies and buffers, words for areas. An area may be longer than
+ *   HUBQR_AREA_WORDS and a buffer longer than the record that is written into it; what lies behind is neither read nor written.
+ *   The buffer of a log is lent whole, and its bytes behind the used ones are not read. A record and a body have to have exactly
+ *   their length. Compilers that know the attribute `access`, as gcc does, report a length that the object behind the pointer
+ *   does not have, where they can see the object: `sizeof area` handed over for words, for instance.
  *
  * Versions
  *   Headers and archive have to be of one version, since another one may have other fields in its replies. A host that is not
@@ -100,6 +106,7 @@
 #include "hubqr_base.h"
 #include "hubqr_covariance.h"
 #include "hubqr_desk.h"
+#include "hubqr_log.h"
 #include "hubqr_verify.h"
 #include "hubqr_weights.h"
 

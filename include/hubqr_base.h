@@ -12,7 +12,7 @@
 
 /* The version of these headers. */
 #define HUBQR_VERSION_MAJOR 0
-#define HUBQR_VERSION_MINOR 12
+#define HUBQR_VERSION_MINOR 13
 #define HUBQR_VERSION_PATCH 0
 #define HUBQR_VERSION (10000 * HUBQR_VERSION_MAJOR + 100 * HUBQR_VERSION_MINOR + HUBQR_VERSION_PATCH)
 
@@ -73,8 +73,11 @@ struct hubqr_job {
 
 /* The refusals: the name in enum hubqr_refusal, the number, and what hubqr_refusal_words says of it. */
 #define HUBQR_REFUSALS(X)                                                                                                      \
-    X(HUBQR_WRONG_KIND, 1, "the record is empty or its kind byte is not the one expected")                                     \
-    X(HUBQR_WRONG_LENGTH, 2, "the record's length is not 257 bytes for a matrix or 2,049 bytes for a result")                  \
+    X(HUBQR_WRONG_KIND, 1,                                                                                                     \
+      "the record is empty or its kind byte is not the one expected, or a log has no such kind of entry")                      \
+    X(HUBQR_WRONG_LENGTH, 2,                                                                                                   \
+      "the record's length is not 257 bytes for a matrix or 2,049 bytes for a result, "                                        \
+      "or a log entry's body has not the length of its kind")                                                                  \
     X(HUBQR_AREA_TOO_SHORT, 3, "the area has fewer than 512 words")                                                            \
     X(HUBQR_NONE_HEARD, 4, "no antenna was heard: the real part of every diagonal element is 16 or less")                      \
     X(HUBQR_NO_SUCH_JOB, 5, "the turn number is above 120, or less than the turns made")                                       \
@@ -89,7 +92,9 @@ struct hubqr_job {
     X(HUBQR_NO_SUCH_SECTOR, 12, "the sector is above 7")                                                                       \
     X(HUBQR_COUNT_USED_UP, 13, "turns are requested for an unfinished job, and the sector has none left in the round")         \
     X(HUBQR_SHARES_EXCEED_ROUND, 14, "the shares are above 120 in total")                                                      \
-    X(HUBQR_NOT_ALLOWED, 15, "the call is not allowed to this role")
+    X(HUBQR_NOT_ALLOWED, 15, "the call is not allowed to this role")                                                           \
+    X(HUBQR_BROKEN_LOG, 16, "the used bytes of the log pass the buffer or are no whole run of entries")                        \
+    X(HUBQR_NO_ROOM, 17, "the entry does not fit behind the used bytes of the log")
 
 /* What a reply's `number` can be. */
 enum hubqr_refusal {

@@ -11,6 +11,7 @@ mod doubles;
 #[cfg(earlier)]
 mod earlier;
 mod inputs;
+mod log;
 mod measure;
 mod norms;
 mod options;
@@ -57,6 +58,7 @@ fn main() -> ExitCode {
     print_weights(&options, &weights::rounds::measured(rounds, seed));
     print_verify(&options, &verify::rounds::measured(rounds, seed));
     print_desk(&options, &desk::rounds::measured(rounds, seed));
+    print_log(&options, &log::rounds::measured(rounds, seed));
     ExitCode::SUCCESS
 }
 
@@ -80,6 +82,9 @@ fn agree(seed: u64) -> Result<(), String> {
         contender.check(seed)?;
     }
     for contender in desk::contenders::desks() {
+        contender.check(seed)?;
+    }
+    for contender in log::contenders::all() {
         contender.check(seed)?;
     }
     Ok(())
@@ -131,7 +136,14 @@ fn print_verify(options: &Options, results: &verify::rounds::Results) {
 fn print_desk(options: &Options, results: &desk::rounds::Results) {
     let everyone = desk::report::everyone(results);
     section(options, "A desk for eight sectors", everyone);
-    println!("{}", desk::report::words(results));
+    println!("{}\n", desk::report::words(results));
+}
+
+fn print_log(options: &Options, results: &log::rounds::Results) {
+    section(options, "Adding to a log", log::report::adding(results));
+    section(options, "Sweeping a log", log::report::sweeping(results));
+    section(options, "Reading a log", log::report::reading(results));
+    println!("{}", log::report::words(results));
 }
 
 fn section(options: &Options, title: &str, table: Table) {

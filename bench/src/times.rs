@@ -30,7 +30,7 @@ impl<M: Copy + PartialEq> Times<M> {
     pub fn of_rounds(
         rounds: u64,
         seed: u64,
-        measure: impl Fn(u64, &mut Random, &mut Self),
+        mut measure: impl FnMut(u64, &mut Random, &mut Self),
     ) -> Self {
         let mut times = Times::none();
         for round in 0..rounds {

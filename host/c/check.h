@@ -60,5 +60,8 @@ void test_desk(void);
 void test_hand_in(void);
 void test_desk_refused(void);
 void test_roles(void);
+void test_log(void);
+void test_log_history(void);
+void test_log_refused(void);
 
 #endif

@@ -14,6 +14,14 @@ _Static_assert(HUBQR_ROUND_TURNS == HUBQR_TURNS, "a round has at most the turns 
 _Static_assert(HUBQR_SECTORS * HUBQR_FIRST_SHARE == HUBQR_ROUND_TURNS, "the first shares are the whole of a round");
 _Static_assert(HUBQR_SECTORS * HUBQR_MATRIX_RECORD_BYTES == 2056, "a matrix record that waits for each sector");
 _Static_assert(HUBQR_RESULT_RECORD_BYTES == 1 + HUBQR_AREA_WORDS * 4, "the area's words behind the kind byte");
+_Static_assert(HUBQR_LOG_RESULT == 5 && HUBQR_LOG_REFUSAL == 6 && HUBQR_LOG_HEARD == 7, "the kinds of a log's entries");
+_Static_assert(HUBQR_LOG_HEAD_BYTES == 1 + 4, "a kind and a day before the body");
+_Static_assert(HUBQR_LOG_RESULT_BYTES == HUBQR_LOG_HEAD_BYTES + HUBQR_RESULT_RECORD_BYTES, "a result record behind them");
+_Static_assert(HUBQR_LOG_REFUSAL_BYTES == HUBQR_LOG_HEAD_BYTES + 1, "a refusal number behind them");
+_Static_assert(HUBQR_LOG_HEARD_BYTES == HUBQR_LOG_HEAD_BYTES + 1, "a heard byte behind them");
+_Static_assert(HUBQR_LOG_RESULT_DAYS == 7, "how long results stay");
+_Static_assert(HUBQR_LOG_REFUSAL_DAYS == 30, "how long refusals stay");
+_Static_assert(HUBQR_LOG_HEARD_DAYS == 90, "how long heard bytes stay");
 
 /* The numbers of the refusals, in the header's order. */
 #define NUMBER(name, number, words) number,
@@ -26,6 +34,12 @@ static void test_words(void)
     const char *none = hubqr_refusal_words(255);
     CHECK("words of a number that is none", strcmp(none, "no refusal number") == 0);
     CHECK("words of 0", strcmp(hubqr_refusal_words(HUBQR_ACCEPTED), "accepted") == 0);
+    CHECK("words of 1", strcmp(hubqr_refusal_words(HUBQR_WRONG_KIND),
+                               "the record is empty or its kind byte is not the one expected, "
+                               "or a log has no such kind of entry") == 0);
+    CHECK("words of 2", strcmp(hubqr_refusal_words(HUBQR_WRONG_LENGTH),
+                               "the record's length is not 257 bytes for a matrix or 2,049 bytes for a result, "
+                               "or a log entry's body has not the length of its kind") == 0);
     CHECK("words of 4", strcmp(hubqr_refusal_words(HUBQR_NONE_HEARD),
                                "no antenna was heard: the real part of every diagonal element is 16 or less") == 0);
     CHECK("words of 5", strcmp(hubqr_refusal_words(HUBQR_NO_SUCH_JOB),
@@ -36,6 +50,10 @@ static void test_words(void)
                                 "turns are requested for an unfinished job, and the sector has none left in the round") == 0);
     CHECK("words of 14", strcmp(hubqr_refusal_words(HUBQR_SHARES_EXCEED_ROUND), "the shares are above 120 in total") == 0);
     CHECK("words of 15", strcmp(hubqr_refusal_words(HUBQR_NOT_ALLOWED), "the call is not allowed to this role") == 0);
+    CHECK("words of 16", strcmp(hubqr_refusal_words(HUBQR_BROKEN_LOG),
+                                "the used bytes of the log pass the buffer or are no whole run of entries") == 0);
+    CHECK("words of 17", strcmp(hubqr_refusal_words(HUBQR_NO_ROOM),
+                                "the entry does not fit behind the used bytes of the log") == 0);
     for (int k = 0; k < REFUSALS; k++) {
         CHECK("refusals are numbered from 1 on", numbers[k] == k + 1);
         for (int other = 0; other < k; other++) {

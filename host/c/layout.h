@@ -105,4 +105,16 @@ PLACE(hubqr_desk_heard_reply, desk, 0);
 PLACE(hubqr_desk_heard_reply, number, 2168);
 PLACE(hubqr_desk_heard_reply, heard, 2169);
 
+SIZE(hubqr_log_reply, 16);
+PLACE(hubqr_log_reply, number, 0);
+PLACE(hubqr_log_reply, used, 8);
+
+SIZE(hubqr_log_entry, 40);
+PLACE(hubqr_log_entry, number, 0);
+PLACE(hubqr_log_entry, kind, 4);
+PLACE(hubqr_log_entry, day, 8);
+PLACE(hubqr_log_entry, body, 16);
+PLACE(hubqr_log_entry, body_len, 24);
+PLACE(hubqr_log_entry, next, 32);
+
 #endif

@@ -244,11 +244,55 @@ static bool by_role()
            allowed(HUBQR_OPERATOR, true, true, true);
 }
 
+// A heard byte of day 100 and a result of day 184 in a local buffer that nothing was written to. A second result does not fit,
+// the heard byte is swept on day 190, and what is left behind stands behind the used bytes.
+static bool logged()
+{
+    std::array<uint8_t, HUBQR_LOG_RESULT_BYTES + HUBQR_LOG_HEARD_BYTES> log;
+    uint8_t heard = 0x42;
+    size_t used = 0;
+    auto none = hubqr_log_sweep(100, used, log.data(), log.size());
+    auto first = hubqr_log_add(HUBQR_LOG_HEARD, 100, &heard, 1, used, log.data(), log.size());
+    bool begun = none.number == HUBQR_ACCEPTED && none.used == 0 && first.number == HUBQR_ACCEPTED && first.used == 6;
+    used = first.used;
+    auto added = hubqr_log_add_at(HUBQR_LOG_RESULT, 184, buffer.data(), buffer.size(), &used, log.data(), log.size());
+    auto full = hubqr_log_add_at(HUBQR_LOG_RESULT, 184, buffer.data(), buffer.size(), &used, log.data(), log.size());
+    bool kept = added == HUBQR_ACCEPTED && full == HUBQR_NO_ROOM && used == log.size();
+    auto early = hubqr_log_sweep(189, used, log.data(), log.size());
+    auto swept = hubqr_log_sweep_at(190, &used, log.data(), log.size());
+    bool closed = early.used == log.size() && swept == HUBQR_ACCEPTED && used == HUBQR_LOG_RESULT_BYTES;
+    auto entry = hubqr_log_next(0, used, log.data(), log.size()), end = hubqr_log_next(entry.next, used, log.data(), log.size());
+    return begun && kept && closed && entry.kind == HUBQR_LOG_RESULT && entry.day == 184 && entry.body_len == buffer.size() &&
+           std::equal(buffer.begin(), buffer.end(), log.data() + entry.body) && end.kind == 0 && end.next == used &&
+           std::equal(buffer.end() - HUBQR_LOG_HEARD_BYTES, buffer.end(), log.end() - HUBQR_LOG_HEARD_BYTES);
+}
+
+// 16 first, then 1, 2 and 17; a refusal answers a used count of 0, and by pointer leaves it as it is.
+static bool unlogged()
+{
+    std::array<uint8_t, HUBQR_LOG_HEARD_BYTES> log{HUBQR_LOG_REFUSAL, 0, 0, 0x4e, 0x20, HUBQR_NONE_HEARD};
+    auto before = log;
+    auto is = [&](uint32_t kind, size_t length, size_t used, int number) {
+        size_t kept = used;
+        auto reply = hubqr_log_add(kind, 20000, buffer.data(), length, used, log.data(), log.size());
+        auto by_pointer = hubqr_log_add_at(kind, 20000, buffer.data(), length, &kept, log.data(), log.size());
+        return reply.number == number && reply.used == 0 && by_pointer == number && kept == used;
+    };
+    size_t cut = 5;
+    auto swept = hubqr_log_sweep(20000, cut, log.data(), log.size());
+    bool broken = swept.number == HUBQR_BROKEN_LOG && swept.used == 0 && is(0, 0, cut, HUBQR_BROKEN_LOG) &&
+                  hubqr_log_sweep_at(20000, &cut, log.data(), log.size()) == HUBQR_BROKEN_LOG && cut == 5 &&
+                  hubqr_log_next(0, cut, log.data(), log.size()).number == HUBQR_BROKEN_LOG;
+    return broken && is(261, 0, 6, HUBQR_WRONG_KIND) && is(5, 2048, 6, HUBQR_WRONG_LENGTH) && is(7, 1, 6, HUBQR_NO_ROOM) &&
+           hubqr_log_sweep(0, 0, nullptr, 0).number == HUBQR_ACCEPTED && log == before;
+}
+
 int main()
 {
     bool named = hubqr_version() == HUBQR_VERSION && hubqr_refusal_words(HUBQR_ACCEPTED) == std::string_view("accepted");
     bool calls = accepted() && in_instalments() && clamped() && refused() && covariance() && weighted() && verified();
-    bool holds = calls && served() && early() && turned_away() && shared_out() && by_role() && named;
+    bool desk = served() && early() && turned_away() && shared_out() && by_role();
+    bool holds = calls && desk && logged() && unlogged() && named;
     std::puts(holds ? "hubqr C++ face: passed" : "hubqr C++ face: FAILED");
     return holds ? 0 : 1;
 }

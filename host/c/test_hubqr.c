@@ -21,6 +21,9 @@ int main(void)
     test_hand_in();
     test_desk_refused();
     test_roles();
+    test_log();
+    test_log_history();
+    test_log_refused();
     printf("hubqr C face: %u checks passed\n", checks_passed());
     return 0;
 }

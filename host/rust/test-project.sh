@@ -26,7 +26,7 @@ block() {
     awk -v start="\`\`\`$1" '$0 == start { on = 1; next } /^```/ { on = 0 } on' README.md
 }
 
-# project FOLDER: writes a project with README's lines, which factors a sample record, works out weights and verifies the result.
+# project FOLDER: writes a project with README's lines, which factors a sample record, works out weights, verifies the result and logs it.
 project() {
     mkdir -p "$1/src"
     {
@@ -37,8 +37,10 @@ project() {
         echo 'fn main() -> Result<(), hubqr::Refusal> {'
         echo "let record = std::fs::read(\"$top/examples/records/hermitian.bin\").unwrap();"
         echo 'let targets = [hubqr::Sample { re: 16384, im: 0 }; hubqr::ANTENNAS];'
+        echo 'let (mut buffer, today) = ([0; 4096], 20_000);'
         block rust
-        echo 'println!("kind {}, all heard: {all_heard}, weights: {}, right: {right}", result[0], weights.len());'
+        echo 'let logged = journal.used();'
+        echo 'println!("kind {}, all heard: {all_heard}, weights: {}, right: {right}, logged: {logged}", result[0], weights.len());'
         echo 'Ok(())'
         echo '}'
     } >"$1/src/main.rs"
@@ -70,7 +72,7 @@ says() {
 }
 
 ln -s "$top" "$beside/yuzhattim" || exit 1
-printed='kind 2, all heard: true, weights: 8, right: true'
+printed='kind 2, all heard: true, weights: 8, right: true, logged: 2054'
 project "$beside/hub"
 mkdir "$beside/archive" "$beside/empty"
 cp build/libhubqr.a "$beside/archive/"

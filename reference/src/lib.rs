@@ -7,10 +7,11 @@
 //!
 //! [`calls`] has the five calls of the factorization, [`job`] what a host hands from one to the
 //! next, [`covariance`] the three that make a matrix record of snapshots, [`weights`] the one that
-//! solves for weights, [`verify`] the one that says yes or no to a result, and [`desk`] those for the
-//! eight sectors of a hub, each of which is made in a [`role`]. [`accuracy`] has the exact errors of a
-//! worked matrix, [`cases`] and [`random`] the test matrices. [`listing`], [`program`] and [`page`] say
-//! what the programs have to write.
+//! solves for weights, [`verify`] the one that says yes or no to a result, [`desk`] those for the
+//! eight sectors of a hub, each of which is made in a [`role`], and [`log`] the three that keep results,
+//! refusals and heard bytes for their days. [`accuracy`] has the exact errors of a worked matrix,
+//! [`cases`] and [`random`] the test matrices. [`listing`], [`program`] and [`page`] say what the
+//! programs have to write.
 
 pub mod accuracy;
 pub mod area;
@@ -21,6 +22,7 @@ pub mod covariance;
 pub mod desk;
 pub mod job;
 pub mod listing;
+pub mod log;
 pub mod matrix;
 pub mod page;
 pub mod program;

@@ -7,9 +7,9 @@ use crate::job::Job;
 #[derive(Debug, Clone, Copy, PartialEq, Eq)]
 #[repr(u8)]
 pub enum Refusal {
-    /// No byte, or a kind byte that is not the call's.
+    /// No byte, or a kind byte that is not the call's, or a log has no such kind of entry.
     Kind = 1,
-    /// The record's length is wrong.
+    /// The record's length is wrong, or a log entry's body has not the length of its kind.
     Length = 2,
     /// The area has under 512 words.
     Area = 3,
@@ -37,6 +37,10 @@ pub enum Refusal {
     Shares = 14,
     /// The call is not allowed to this role.
     Role = 15,
+    /// The used bytes of the log pass the buffer or are no whole run of entries.
+    Log = 16,
+    /// The entry does not fit behind the used bytes of the log.
+    Room = 17,
 }
 
 impl Refusal {

@@ -1,5 +1,5 @@
--- Calls one after the other, each on the words and the job, on the sums or on the desk, that the one before left: all replies, and what is left in every
--- lent buffer, on all inputs. Assumes nothing.
+-- Calls one after the other, each on the words and the job, on the sums, on the log or on the desk, that the one before left: all replies, and what is left
+-- in every lent buffer, on all inputs. Assumes nothing.
 use mathlib.Core.List.{List}
 use Prim.Native.Nat.{ℕ}
 use lib.IntN.{ℤ}
@@ -14,6 +14,10 @@ use Rattle.covariance.specs.AddSnapshot.{addOf}
 use Rattle.covariance.specs.WriteMatrix.{writeOf}
 use Rattle.weights.specs.Weights.{weightsOf}
 use Rattle.verify.specs.Verify.{verdictOf}
+use Rattle.journal.specs.Outcome.{usedAfter}
+use Rattle.journal.specs.Add.{logAddOf}
+use Rattle.journal.specs.Sweep.{logSweepOf}
+use Rattle.journal.specs.Next.{logNextOf}
 use Rattle.desk.specs.declared.Desk.{Desk}
 use Rattle.desk.specs.Desk.{newDesk}
 use Rattle.desk.specs.Roles.{viewer, operator}
@@ -29,6 +33,7 @@ use Rattle.caller.specs.declared.CopyReply.{CopyReply}
 use Rattle.caller.specs.declared.PairReply.{PairReply}
 use Rattle.caller.specs.declared.WeighedReply.{WeighedReply}
 use Rattle.caller.specs.declared.VerifiedReply.{VerifiedReply}
+use Rattle.caller.specs.declared.DailyReply.{DailyReply}
 use Rattle.caller.specs.declared.ServedReply.{ServedReply}
 use Rattle.caller.specs.declared.RoundReply.{RoundReply}
 
@@ -108,6 +113,19 @@ unfoldable pub verifiedOf : List ℕ → List ℤ → List ℕ → VerifiedOutco
 verifiedOf rec workspace buffer =
     let done = wholeOf rec workspace buffer in
     record { reply = record { whole = done .reply; verdict = verdictOf rec (done .buffer) }; workspace = done .workspace; buffer = done .buffer }
+
+pub record DailyOutcome : Type 0 where
+  pub reply : DailyReply
+  pub buffer : List ℕ
+
+-- a sweep, an add behind what stays, and the reader at place 0
+unfoldable pub dailyOf : ℕ → ℕ → List ℕ → ℕ → List ℕ → DailyOutcome
+dailyOf kind day body used buffer =
+    let swept = logSweepOf day used buffer in
+    let end = usedAfter (swept .reply .number) (swept .reply .used) used in
+    let added = logAddOf kind day body end (swept .buffer) in
+    let last = usedAfter (added .reply .number) (added .reply .used) end in
+    record { reply = record { swept = swept .reply; added = added .reply; first = logNextOf 0 last (added .buffer) }; buffer = added .buffer }
 
 pub record ServedOutcome : Type 0 where
   pub reply : ServedReply

@@ -1,7 +1,7 @@
 // A caller of all calls, proved from their contracts alone: a factorization in two instalments, a stored result fetched again, a copy of a result,
-// the matrix of two snapshots, the weights of a matrix, the verdict on a result just made, a sector served at a desk with the next matrix early, and a
-// round begun there. Each answers the replies of all calls that it makes, so that whoever calls it sees the first refusal. The words here are document
-// 01's own.
+// the matrix of two snapshots, the weights of a matrix, the verdict on a result just made, a log swept and added to, a sector served at a desk with the
+// next matrix early, and a round begun there. Each answers the replies of all calls that it makes, so that whoever calls it sees the first refusal. The
+// words here are document 01's own.
 use desk::Desk;
 use desk::DeskReply;
 use desk::OPERATOR;
@@ -16,10 +16,13 @@ use engine::read::ReadReply;
 use engine::run::RunReply;
 use engine::whole::WholeReply;
 use hubqr::snapshots::Snapshot;
+use journal::LogReply;
+use journal::next::LogEntry;
 use verify::Verdict;
 use weights::WeightsReply;
 ghost use mathlib.Core.Path.{_≡_};
-ghost use Rattle.caller.specs.Caller.{HalvesOutcome, halvesOf, AgainOutcome, againOf, CopyOutcome, copyOf, PairOutcome, pairOf, WeighedOutcome, weighedOf, VerifiedOutcome, verifiedOf, ServedOutcome, servedOf, RoundOutcome, roundOf};
+ghost use Rattle.journal.specs.Outcome.{usedAfter};
+ghost use Rattle.caller.specs.Caller.{HalvesOutcome, halvesOf, AgainOutcome, againOf, CopyOutcome, copyOf, PairOutcome, pairOf, WeighedOutcome, weighedOf, VerifiedOutcome, verifiedOf, DailyOutcome, dailyOf, ServedOutcome, servedOf, RoundOutcome, roundOf};
 
 // The turns of one instalment: half of them.
 const HALF: u16 = 60;
@@ -61,6 +64,13 @@ pub struct WeighedReply {
 pub struct VerifiedReply {
     pub whole: WholeReply,
     pub verdict: Verdict,
+}
+
+// The replies of the sweep, of the add and of the reader.
+pub struct DailyReply {
+    pub swept: LogReply,
+    pub added: LogReply,
+    pub first: LogEntry,
 }
 
 // The replies of the setting of shares and the begin of a round, and of both hand-ins, Run and Fetch for a sector.
@@ -158,6 +168,29 @@ pub fn factor_and_verify(bytes: &[u8], area: &mut [i32], buffer: &mut [u8]) -> V
     VerifiedReply {
         whole: done,
         verdict,
+    }
+}
+
+// The used count after a call: the one that it answers, and where it is refused the one that it was handed.
+fn used_after(reply: LogReply, used: usize) -> usize
+    ensures { λ r. ⌜ r ≡ usedAfter (reply .number) (reply .used) used ⌝ }
+{
+    if reply.number == 0 { reply.used } else { used }
+}
+
+// On one day: a sweep, an entry behind what stays, and the first entry of what is then used.
+pub fn sweep_and_add(kind: u32, day: u32, body: &[u8], used: usize, buffer: &mut [u8]) -> DailyReply
+    ensures { λ r. ⌜ record { reply = r; buffer = now (buffer .exit) } ≡ dailyOf kind day (now (body .entry)) used (now (buffer .entry)) ⌝ }
+{
+    let swept = hubqr::log::hubqr_log_sweep(day, used, buffer);
+    let end = used_after(swept, used);
+    let added = hubqr::log::hubqr_log_add(kind, day, body, end, buffer);
+    let last = used_after(added, end);
+    let first = hubqr::log::hubqr_log_next(0, last, buffer);
+    DailyReply {
+        swept,
+        added,
+        first,
     }
 }
 

@@ -1,6 +1,7 @@
 // The engine's five calls for C and Rust hosts. Each hands on the engine's reply, whose values are document 01's. The words here are document
 // 01's own.
 pub mod boards;
+pub mod log;
 pub mod modem;
 pub mod sectors;
 pub mod snapshots;
@@ -55,7 +56,7 @@ pub extern "C" fn hubqr_whole(bytes: &[u8], area: &mut [i32], buffer: &mut [u8])
 // The version of this archive, 10,000 times the major, 100 times the minor and the patch number.
 #[no_mangle]
 pub extern "C" fn hubqr_version() -> u32
-    ensures { λ r. ⌜ r ≡ 1200 ⌝ }
+    ensures { λ r. ⌜ r ≡ 1300 ⌝ }
 {
-    1200
+    1300
 }

@@ -9,11 +9,11 @@ use lib.ListN.{length, getD}
 
 -- ---- the numbers
 
--- no byte, or the tag (document 01's kind byte) is not the call's
+-- no byte, or the tag (document 01's kind byte) is not the call's; or a log has no such kind of entry (document 02, U14)
 abbrev pub wrongTag : ℕ
 wrongTag = 1
 
--- the record's length is not the call's
+-- the record's length is not the call's, or a body's not that of its kind (document 02, U14)
 abbrev pub wrongLength : ℕ
 wrongLength = 2
 
@@ -68,6 +68,14 @@ sharesExceedRound = 14
 -- not allowed to this role (document 02, U12)
 abbrev pub notAllowed : ℕ
 notAllowed = 15
+
+-- the used bytes of a log pass the buffer or are no whole run of entries (document 02, U14)
+abbrev pub brokenLog : ℕ
+brokenLog = 16
+
+-- the entry doesn't fit behind the used bytes (document 02, U14)
+abbrev pub noRoom : ℕ
+noRoom = 17
 
 -- ---- tests in sequence
 

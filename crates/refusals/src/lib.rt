@@ -33,6 +33,10 @@ pub const SHARES_EXCEED_ROUND: u8 = 14;
 
 pub const NOT_ALLOWED: u8 = 15;
 
+pub const BROKEN_LOG: u8 = 16;
+
+pub const NO_ROOM: u8 = 17;
+
 // Tests 1 and 2 of a record that has this tag and this length: the number of the first that fails, 0 for none.
 pub fn header_refusal(bytes: &[u8], tag: u8, size: usize) -> u8
     ensures { λ r. ⌜ r ≡ headerTest tag size (now (bytes .entry)) ⌝ }

@@ -1,6 +1,6 @@
--- A word and its four bytes, and a 16-bit number and its two: reading what was written gives the word, and writing what was read gives the bytes.
--- Assumes nothing.
-use mathlib.Core.Path.{_≡_, ap, _∙_}
+-- A word and its four bytes, signed and unsigned, and a 16-bit number and its two: reading what was written gives the number, and writing what was read
+-- gives the bytes. Assumes nothing.
+use mathlib.Core.Path.{_≡_, refl, ap, _∙_}
 use Prim.Native.Nat.{ℕ, zero, suc, _+_, _*_, _-_, _/_, _%_, _<_}
 use mathlib.Core.List.{[], _∷_}
 use native.Mathlib.Nat.{div-one, div-add-mod', div-div-eq-div-mul, mod-eq-of-lt}
@@ -9,7 +9,7 @@ use lib.IntN.{ℤ}
 use mir.Syntax.{w16, w32}
 use mir.Val.{SFits, toZ, ofZ}
 use mir.Facts.{toZ-ofZ, ofZ-toZ, fits-ofZ}
-use Rattle.words.specs.Words.{int16, int16Byte, int16Bytes, int32, byteOf, wordBytes}
+use Rattle.words.specs.Words.{int16, int16Byte, int16Bytes, uint32, uint32Bytes, int32, byteOf, wordBytes}
 
 -- ---- 16 bits
 
@@ -26,23 +26,25 @@ int16-bytes-are n z e h = let t : n / 256 < 256 = omega arith in rw (← e, mod-
 -- ---- 32 bits
 
 -- four digits to base 256: x is the number, p, q and r its quotients
-join : (x p q r a b c d : ℕ) → p * 256 + d ≡ x → q * 256 + c ≡ p → r * 256 + b ≡ q → a ≡ r → a * 16777216 + b * 65536 + c * 256 + d ≡ x
+join : (x p q r a b c d : ℕ) → p * 256 + d ≡ x → q * 256 + c ≡ p → r * 256 + b ≡ q → a ≡ r → uint32 a b c d ≡ x
 join x p q r a b c d e f g h = omega arith
 
-digits : (n : ℕ) → n < 4294967296 → n / 16777216 % 256 * 16777216 + n / 65536 % 256 * 65536 + n / 256 % 256 * 256 + n / 1 % 256 ≡ n
-digits n h =
-    let t : n / 16777216 < 256 = omega arith in
+pub uint32-again : (n : ℕ) → uint32 (n / 16777216) (n / 65536 % 256) (n / 256 % 256) (n % 256) ≡ n
+uint32-again n =
     join n (n / 256) (n / 65536) (n / 16777216) _ _ _ _
-    (rw (div-one n) (div-add-mod' n 256))
+    (div-add-mod' n 256)
     (rw (← div-div-eq-div-mul n 256 256) (div-add-mod' (n / 256) 256))
     (rw (← div-div-eq-div-mul n 65536 256) (div-add-mod' (n / 65536) 256))
-    (mod-eq-of-lt t)
+    refl
+
+digits : (n : ℕ) → n < 4294967296 → uint32 (n / 16777216 % 256) (n / 65536 % 256) (n / 256 % 256) (n / 1 % 256) ≡ n
+digits n h = let t : n / 16777216 < 256 = omega arith in rw (mod-eq-of-lt t, div-one n) (uint32-again n)
 
 pub word-again : (z : ℤ) → SFits w32 z → int32 (byteOf z 0) (byteOf z 1) (byteOf z 2) (byteOf z 3) ≡ z
 word-again z f = ap (toZ w32) (digits (ofZ w32 z) (fits-ofZ f .fits)) ∙ toZ-ofZ f
 
 -- the four digits of a word's bits are its bytes
-pub bytes-are : (n : ℕ) (z : ℤ) → n ≡ ofZ w32 z → n < 4294967296 → (n / 16777216 ∷ n / 65536 % 256 ∷ n / 256 % 256 ∷ n % 256 ∷ []) ≡ wordBytes z
+pub bytes-are : (n : ℕ) (z : ℤ) → n ≡ ofZ w32 z → n < 4294967296 → uint32Bytes n ≡ wordBytes z
 bytes-are n z e h = let t : n / 16777216 < 256 = omega arith in rw (← e, mod-eq-of-lt t, div-one)
 
 -- byte q of four
@@ -53,7 +55,7 @@ oneOf a b c d (suc (suc zero)) = c
 oneOf a b c d (suc (suc (suc q))) = d
 
 module _ (a b c d : ℕ) (ha : a < 256) (hb : b < 256) (hc : c < 256) (hd : d < 256) where
-  bits : ofZ w32 (int32 a b c d) ≡ a * 16777216 + b * 65536 + c * 256 + d
+  bits : ofZ w32 (int32 a b c d) ≡ uint32 a b c d
   bits = ofZ-toZ {w = w32} (omega arith)
 
   pub byte-again : (q : ℕ) → q < 4 → byteOf (int32 a b c d) q ≡ oneOf a b c d q
@@ -62,3 +64,11 @@ module _ (a b c d : ℕ) (ha : a < 256) (hb : b < 256) (hc : c < 256) (hd : d < 
   byte-again (suc (suc zero)) h = rw bits (omega arith)
   byte-again (suc (suc (suc zero))) h = rw bits (omega arith)
   byte-again (suc (suc (suc (suc q)))) h = absurd (omega arith)
+
+  pub bytes-again : uint32Bytes (uint32 a b c d) ≡ a ∷ b ∷ c ∷ d ∷ []
+  bytes-again =
+      let e : uint32 a b c d / 16777216 ≡ a = omega arith in
+      let f : uint32 a b c d / 65536 % 256 ≡ b = omega arith in
+      let g : uint32 a b c d / 256 % 256 ≡ c = omega arith in
+      let h : uint32 a b c d % 256 ≡ d = omega arith in
+      rw (e, f, g, h)

@@ -1,10 +1,10 @@
-// Bytes and signed words: two's complement, high byte first.
+// Bytes and words: high byte first, and two's complement where they are signed.
 ghost use mathlib.Core.Path.{_≡_};
 ghost use Prim.Native.Nat.{_<_};
 ghost use lib.Signed.{mag};
 ghost use mir.Syntax.{w16, w32};
 ghost use mir.Val.{toZ, ofZ};
-ghost use Rattle.words.specs.Words.{int16, int16Bytes, int32, wordBytes};
+ghost use Rattle.words.specs.Words.{int16, int16Bytes, uint32, uint32Bytes, int32, wordBytes};
 
 // The signed 16-bit number in two bytes.
 pub fn signed16(high: u8, low: u8) -> i32
@@ -62,11 +62,29 @@ fn to_bits(w: i32) -> u32
     }
 }
 
+// The unsigned 32-bit number in four bytes.
+pub fn unsigned32(a: u8, b: u8, c: u8, d: u8) -> u32
+    ensures { λ r. ⌜ r ≡ uint32 a b c d ⌝ }
+{
+    a as u32 * 16777216 + b as u32 * 65536 + c as u32 * 256 + d as u32
+}
+
+// The four bytes of an unsigned number, high byte first.
+pub fn uint32_bytes(n: u32) -> [u8; 4]
+    ensures { λ r. ⌜ r ≡ uint32Bytes n ⌝ }
+{
+    let a = (n / 16777216) as u8;
+    let b = (n / 65536 % 256) as u8;
+    let c = (n / 256 % 256) as u8;
+    let d = (n % 256) as u8;
+    [a, b, c, d]
+}
+
 // The signed 32-bit word in four bytes.
 pub fn signed32(a: u8, b: u8, c: u8, d: u8) -> i32
     ensures { λ r. ⌜ r ≡ int32 a b c d ⌝ }
 {
-    from_bits(a as u32 * 16777216 + b as u32 * 65536 + c as u32 * 256 + d as u32)
+    from_bits(unsigned32(a, b, c, d))
 }
 
 // The four bytes of a word, high byte first.
@@ -74,9 +92,5 @@ pub fn word_bytes(w: i32) -> [u8; 4]
     ensures { λ r. ⌜ r ≡ wordBytes w ⌝ }
 {
     let n = to_bits(w);
-    let a = (n / 16777216) as u8;
-    let b = (n / 65536 % 256) as u8;
-    let c = (n / 256 % 256) as u8;
-    let d = (n % 256) as u8;
-    [a, b, c, d]
+    uint32_bytes(n)
 }

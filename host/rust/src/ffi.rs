@@ -2,10 +2,11 @@
 //! of each call. `tools/check-face.sh` compares these lines with the headers, with the archive's
 //! symbols and with the sources that the archive is made of.
 //!
-//! A pointer may be null only where its length is 0, and the record, the area and the buffer of a
-//! call may not overlap. The two records of [`hubqr_verify`] may, since both are only read. In every
-//! reply `number` is 0 for an accepted call, and the refusal's number otherwise. A `role` is the number
-//! of a [`Role`](crate::Role): any other number is refused with 15, by every call that takes one.
+//! A pointer may be null only where its length is 0, and the record or the body, the area and the
+//! buffer of a call may not overlap. The two records of [`hubqr_verify`] may, since both are only read.
+//! In every reply `number` is 0 for an accepted call, and the refusal's number otherwise. A `role` is
+//! the number of a [`Role`](crate::Role): any other number is refused with 15, by every call that takes
+//! one.
 
 /// How far the work on an area is. The caller keeps it beside the area and hands it to the next call.
 #[repr(C)]
@@ -136,6 +137,36 @@ pub struct Verdict {
     pub number: u8,
     /// 1 for yes, 0 for no; of a refused call, which is neither, 0.
     pub yes: u8,
+}
+
+/// What adding an entry to a log and sweeping one answer.
+#[repr(C)]
+#[derive(Clone, Copy, Debug, PartialEq, Eq)]
+pub struct LogReply {
+    /// 0, or the refusal's number.
+    pub number: u8,
+    /// The used count to hand to the next call; of a refused call 0, and the caller keeps the one that it
+    /// handed over.
+    pub used: usize,
+}
+
+/// What reading a log answers: the entry at a place. At the end of the used bytes, where none stands, and
+/// of a refused call, `kind`, `day`, `body` and `body_len` are 0.
+#[repr(C)]
+#[derive(Clone, Copy, Debug, PartialEq, Eq)]
+pub struct LogEntry {
+    /// 0, or the refusal's number.
+    pub number: u8,
+    /// The kind: 5, 6 or 7.
+    pub kind: u32,
+    /// The day, counted from 1 January 1970.
+    pub day: u32,
+    /// The body's place in the buffer.
+    pub body: usize,
+    /// The bytes of the body.
+    pub body_len: usize,
+    /// The place of the next entry; at the end of the used bytes, the used count; of a refused call, 0.
+    pub next: usize,
 }
 
 /// How far the work for the eight sectors of a hub is, their shares, what each has left in the round,
@@ -300,6 +331,24 @@ extern "C" {
         result: *const u8,
         result_len: usize,
     ) -> Verdict;
+
+    /// Adds an entry behind the used bytes of a log.
+    pub fn hubqr_log_add(
+        kind: u32,
+        day: u32,
+        body: *const u8,
+        body_len: usize,
+        used: usize,
+        buffer: *mut u8,
+        buffer_len: usize,
+    ) -> LogReply;
+
+    /// Takes the entries that are too old on a day out of a log, and closes the gaps.
+    pub fn hubqr_log_sweep(day: u32, used: usize, buffer: *mut u8, buffer_len: usize) -> LogReply;
+
+    /// Reads the entry that stands at a place of a log's used bytes.
+    pub fn hubqr_log_next(at: usize, used: usize, buffer: *const u8, buffer_len: usize)
+        -> LogEntry;
 
     /// A new desk: no sector is loaded, and each has a share of 15 turns, all of them left.
     pub fn hubqr_desk_new() -> Desk;

@@ -63,6 +63,11 @@
 //! **fitter** the result records too, and the **operator** may make every call. [`Role`] says which
 //! call is allowed to whom.
 //!
+//! The **log** is a lent buffer that holds results for seven days, refusal numbers for thirty and heard
+//! bytes for ninety. [`Journal`] adds entries to it, each with its day, sweeps out what has been there
+//! long enough, and reads them back. What was swept may still stand in the buffer, behind the used
+//! bytes, until it is overwritten.
+//!
 //! Areas and buffers may be longer than needed: what lies behind is not touched. A refused call
 //! changes nothing that it was lent.
 //!
@@ -142,6 +147,34 @@
 //! }
 //! # Ok::<(), hubqr::Refusal>(())
 //! ```
+//!
+//! # A log
+//!
+//! ```
+//! use hubqr::{Body, Journal};
+//! # let records = [[1; hubqr::MATRIX_RECORD_BYTES], [0; hubqr::MATRIX_RECORD_BYTES]];
+//! # let mut area = [0; hubqr::AREA_WORDS];
+//! # let mut result = [0; hubqr::RESULT_RECORD_BYTES];
+//! # let today = 20_000;
+//!
+//! let mut buffer = [0; 16_384];
+//! let mut journal = Journal::new(&mut buffer);
+//! journal.sweep(today); // once a day: takes out what has been there long enough
+//! for record in &records {
+//!     match hubqr::whole(record, &mut area, &mut result) {
+//!         Ok(factored) => {
+//!             journal.add(today, Body::Heard(factored.heard))?;
+//!             journal.add(today, Body::Result(&result))?;
+//!         }
+//!         Err(refusal) => journal.add(today, Body::Refusal(refusal.number()))?,
+//!     }
+//! }
+//! for entry in &journal {
+//!     println!("day {}: kind {}", entry.day, entry.body.kind());
+//! }
+//! # assert_eq!(journal.used(), 6 + 2054 + 6);
+//! # Ok::<(), hubqr::Refusal>(())
+//! ```
 #![no_std]
 #![warn(missing_docs)]
 
@@ -152,7 +185,11 @@ mod covariance;
 #[cfg(feature = "archive")]
 mod desk;
 #[cfg(feature = "archive")]
+mod entry;
+#[cfg(feature = "archive")]
 pub mod ffi;
+#[cfg(feature = "archive")]
+mod journal;
 mod refusal;
 #[cfg(feature = "archive")]
 mod role;
@@ -170,7 +207,11 @@ pub use covariance::Covariance;
 #[cfg(feature = "archive")]
 pub use desk::HandedIn;
 #[cfg(feature = "archive")]
+pub use entry::{Body, Entries, Entry};
+#[cfg(feature = "archive")]
 pub use ffi::{Desk, Job, Sample, Weight};
+#[cfg(feature = "archive")]
+pub use journal::Journal;
 pub use refusal::{Refusal, UnknownNumber};
 #[cfg(feature = "archive")]
 pub use role::Role;
@@ -229,6 +270,29 @@ pub const KIND_MATRIX: u8 = 1;
 pub const KIND_RESULT: u8 = 2;
 /// First byte of a refusal record.
 pub const KIND_REFUSAL: u8 = 3;
+
+/// The kind of a log's entry that holds a result record.
+pub const LOG_RESULT: u32 = 5;
+/// The kind of a log's entry that holds a refusal number.
+pub const LOG_REFUSAL: u32 = 6;
+/// The kind of a log's entry that holds a heard byte.
+pub const LOG_HEARD: u32 = 7;
+
+/// Bytes of a log's entry before its body: those of its kind and its day.
+pub const LOG_HEAD_BYTES: usize = 5;
+/// Bytes of a log's entry that holds a result record.
+pub const LOG_RESULT_BYTES: usize = LOG_HEAD_BYTES + RESULT_RECORD_BYTES;
+/// Bytes of a log's entry that holds a refusal number.
+pub const LOG_REFUSAL_BYTES: usize = LOG_HEAD_BYTES + 1;
+/// Bytes of a log's entry that holds a heard byte.
+pub const LOG_HEARD_BYTES: usize = LOG_HEAD_BYTES + 1;
+
+/// Days that a result record stays in a log.
+pub const LOG_RESULT_DAYS: u32 = 7;
+/// Days that a refusal number stays in a log.
+pub const LOG_REFUSAL_DAYS: u32 = 30;
+/// Days that a heard byte stays in a log.
+pub const LOG_HEARD_DAYS: u32 = 90;
 
 /// What stands for one in the words of R, so that one step of the 16-bit input is 2^13.
 pub const R_ONE: i32 = 1 << 28;

@@ -43,8 +43,10 @@ macro_rules! refusals {
 }
 
 refusals! {
-    WrongKind = 1, "the record is empty or its kind byte is not the one expected";
-    WrongLength = 2, "the record's length is not 257 bytes for a matrix or 2,049 bytes for a result";
+    WrongKind = 1, "the record is empty or its kind byte is not the one expected, \
+                    or a log has no such kind of entry";
+    WrongLength = 2, "the record's length is not 257 bytes for a matrix or 2,049 bytes for a result, \
+                      or a log entry's body has not the length of its kind";
     AreaTooShort = 3, "the area has fewer than 512 words";
     NoneHeard = 4, "no antenna was heard: the real part of every diagonal element is 16 or less";
     NoSuchJob = 5, "the turn number is above 120, or less than the turns made";
@@ -62,6 +64,8 @@ refusals! {
                        and the sector has none left in the round";
     SharesExceedRound = 14, "the shares are above 120 in total";
     NotAllowed = 15, "the call is not allowed to this role";
+    BrokenLog = 16, "the used bytes of the log pass the buffer or are no whole run of entries";
+    NoRoom = 17, "the entry does not fit behind the used bytes of the log";
 }
 
 impl Refusal {

@@ -7,6 +7,7 @@ use reference::clamps::Clamps;
 use reference::covariance::Snapshot;
 use reference::desk::{Desk, DeskReply, Seat, SECTORS};
 use reference::job::Job;
+use reference::log::{EntryReply, LogReply};
 use reference::records::MATRIX_RECORD;
 use reference::replies::{FetchReply, LoadReply, ReadReply, RunReply, WholeReply};
 use reference::verify::VerifyReply;
@@ -145,6 +146,40 @@ pub fn verify(matrix: &mut [u8], result: &mut [u8]) -> VerifyReply {
     VerifyReply {
         number,
         yes: yes == 1,
+    }
+}
+
+fn answered_log(ffi::LogReply { number, used }: ffi::LogReply) -> LogReply {
+    LogReply { number, used }
+}
+
+pub fn log_add(kind: u32, day: u32, body: &mut [u8], used: usize, buffer: &mut [u8]) -> LogReply {
+    answered_log(unsafe {
+        ffi::hubqr_log_add(
+            kind,
+            day,
+            body.as_mut_ptr(),
+            body.len(),
+            used,
+            buffer.as_mut_ptr(),
+            buffer.len(),
+        )
+    })
+}
+
+pub fn log_sweep(day: u32, used: usize, buffer: &mut [u8]) -> LogReply {
+    answered_log(unsafe { ffi::hubqr_log_sweep(day, used, buffer.as_mut_ptr(), buffer.len()) })
+}
+
+pub fn log_next(at: usize, used: usize, buffer: &mut [u8]) -> EntryReply {
+    let reply = unsafe { ffi::hubqr_log_next(at, used, buffer.as_mut_ptr(), buffer.len()) };
+    EntryReply {
+        number: reply.number,
+        kind: reply.kind,
+        day: reply.day,
+        body: reply.body,
+        body_len: reply.body_len,
+        next: reply.next,
     }
 }
 

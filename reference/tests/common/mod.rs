@@ -7,6 +7,7 @@
 pub mod desk;
 mod engine;
 pub mod heard;
+pub mod log;
 pub mod noticed;
 mod refusals;
 pub mod snapshots;

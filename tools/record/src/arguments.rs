@@ -14,6 +14,7 @@ pub enum Command {
     Check { matrix: OsString, result: OsString },
     Verify { matrix: OsString, result: OsString },
     Weights { result: OsString, targets: OsString },
+    Log { file: OsString },
 }
 
 impl Command {
@@ -32,6 +33,7 @@ impl Command {
             Some("check") if wants_help => Ok(Command::Help(help::CHECK)),
             Some("verify") if wants_help => Ok(Command::Help(help::VERIFY)),
             Some("weights") if wants_help => Ok(Command::Help(help::WEIGHTS)),
+            Some("log") if wants_help => Ok(Command::Help(help::LOG)),
             Some("pack") => rest
                 .files("pack IN.txt OUT.bin")
                 .map(|[text, record]| Command::Pack { text, record }),
@@ -45,6 +47,7 @@ impl Command {
             Some("weights") => rest
                 .files("weights RESULT TARGETS")
                 .map(|[result, targets]| Command::Weights { result, targets }),
+            Some("log") => rest.files("log FILE").map(|[file]| Command::Log { file }),
             _ => Err(Failure::Usage(format!("unknown command {}", quoted(&name)))),
         }
     }
@@ -126,6 +129,8 @@ mod tests {
             targets: "-".into(),
         };
         assert_eq!(parse(&["weights", "r", "-"]).unwrap(), weights);
+        let log = Command::Log { file: "l".into() };
+        assert_eq!(parse(&["log", "l"]).unwrap(), log);
     }
 
     #[test]
@@ -167,6 +172,8 @@ mod tests {
             &["check", "a", "--fast"],
             &["verify", "a"],
             &["weights", "a"],
+            &["log"],
+            &["log", "a", "b"],
         ] {
             let failure = parse(arguments).unwrap_err();
             assert!(matches!(failure, Failure::Usage(_)), "{arguments:?}");

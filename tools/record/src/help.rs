@@ -3,7 +3,8 @@
 pub const VERSION: &str = concat!("record ", env!("CARGO_PKG_VERSION"), "\n");
 
 pub const ALL: &str = "\
-Makes, shows, checks and verifies the records of the eight-antenna QR engine, and solves for weights.
+Makes, shows, checks and verifies the records of the eight-antenna QR engine, solves for weights and
+lists logs.
 
 Usage:
   record pack IN.txt OUT.bin     makes a matrix record from a text of 8 by 8 complex numbers
@@ -11,6 +12,7 @@ Usage:
   record check MATRIX RESULT     shows the errors of a result against their limits, and the verdict
   record verify MATRIX RESULT    says yes or no: whether a result is right for a matrix
   record weights RESULT TARGETS  prints the weights that a result and eight targets give
+  record log FILE                lists the entries of a log, and how long each stays
   record COMMAND --help          says more about a command
   record --version               prints the version
 
@@ -114,4 +116,26 @@ What is printed is not proved: it comes from the independent implementation in r
 call, hubqr_weights, is tested to give the same bits.
 
 A record that the engine refuses has no weights: the reason is printed, and the exit status is 1.
+";
+
+pub const LOG: &str = "\
+Usage: record log FILE
+
+Lists the entries of a log, one a line. FILE holds the used bytes of the log and nothing behind them,
+where what was swept may still stand. The entries are those that the proved call reads,
+hubqr_log_next; the dates are the tool's own.
+
+Of each entry:
+  place       where it begins in FILE, from 0 on
+  day         the date that it was added with, in the Gregorian calendar
+  swept from  the first day on which a sweep takes it out: 7 days later for a result, 30 for a refusal
+              and 90 for a heard byte; never, where that day has no number of 32 bits
+  entry       which antennas a heard byte names; a refusal number and what it means; of a result,
+              whether the engine reads it
+
+The last line has the number of entries and the bytes that they take. What a log holds was stored
+untested: a result that the engine refuses is listed with the reason, and the log is in order.
+
+Where a file is no log, the entries before the first place at which none stands are listed. The place
+and the reason are printed, and the exit status is 1. A file longer than 16 MiB is not listed.
 ";

@@ -1,8 +1,9 @@
-//! `record`: makes, shows, checks and verifies the records of the eight-antenna QR engine, and solves
-//! for weights.
+//! `record`: makes, shows, checks and verifies the records of the eight-antenna QR engine, solves for
+//! weights and lists logs.
 mod arguments;
 mod check;
 mod complex;
+mod date;
 mod decimal;
 mod entries;
 mod factors;
@@ -10,6 +11,7 @@ mod failure;
 mod figures;
 mod files;
 mod help;
+mod log;
 mod matrix;
 mod numbers;
 mod pack;
@@ -93,6 +95,7 @@ fn perform(command: Command) -> Result<Report, Failure> {
         Command::Check { matrix, result } => check::check(&matrix, &result),
         Command::Verify { matrix, result } => verify::verify(&matrix, &result),
         Command::Weights { result, targets } => weights::weights(&result, &targets),
+        Command::Log { file } => log::log(&file),
     }
 }
 

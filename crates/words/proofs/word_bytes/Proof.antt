@@ -11,20 +11,13 @@ use Rattle.words.proofs.word_bytes.Tie as tie
 to-bits-requires : tie.Need-to-bits-requires
 to-bits-requires c κs = search needs
 
-cast-a : tie.Need-cast-a
-cast-a c = search needs
-
-cast-b : tie.Need-cast-b
-cast-b c = search needs
-
-cast-c : tie.Need-cast-c
-cast-c c = search needs
-
-cast-d : tie.Need-cast-d
-cast-d c = search needs
+uint32-bytes-requires : tie.Need-uint32-bytes-requires
+uint32-bytes-requires c κs = search needs
 
 returns : tie.Need-returns
-returns c = bytes-are _ (c .before .args .w) (c .to-bits .ensures ∙ ap (ofZ w32) (toZ-ofZ (c .before .fits .w))) (c .to-bits .ok)
+returns c =
+    let n = c .before .to-bits in
+    c .uint32-bytes .ensures ∙ bytes-are _ (c .before .before .args .w) (n .ensures ∙ ap (ofZ w32) (toZ-ofZ (c .before .before .fits .w))) (n .ok)
 
 pub word-bytes-spec : {M : Type 1} → statement M
-word-bytes-spec = tie.close (tie.spec to-bits-requires cast-a cast-b cast-c cast-d returns)
+word-bytes-spec = tie.close (tie.spec to-bits-requires uint32-bytes-requires returns)

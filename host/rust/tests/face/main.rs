@@ -5,6 +5,7 @@ mod desk;
 mod heard;
 mod job;
 mod lent;
+mod log;
 mod refusal;
 mod refused;
 mod verify;

@@ -19,6 +19,16 @@ fn each_has_words_of_its_own() {
     let words: HashSet<String> = Refusal::ALL.iter().map(Refusal::to_string).collect();
     assert_eq!(words.len(), Refusal::ALL.len());
     assert_eq!(
+        Refusal::WrongKind.to_string(),
+        "the record is empty or its kind byte is not the one expected, \
+         or a log has no such kind of entry"
+    );
+    assert_eq!(
+        Refusal::WrongLength.to_string(),
+        "the record's length is not 257 bytes for a matrix or 2,049 bytes for a result, \
+         or a log entry's body has not the length of its kind"
+    );
+    assert_eq!(
         Refusal::NoneHeard.to_string(),
         "no antenna was heard: the real part of every diagonal element is 16 or less"
     );
@@ -42,6 +52,14 @@ fn each_has_words_of_its_own() {
     assert_eq!(
         Refusal::NotAllowed.to_string(),
         "the call is not allowed to this role"
+    );
+    assert_eq!(
+        Refusal::BrokenLog.to_string(),
+        "the used bytes of the log pass the buffer or are no whole run of entries"
+    );
+    assert_eq!(
+        Refusal::NoRoom.to_string(),
+        "the entry does not fit behind the used bytes of the log"
     );
     assert_eq!(UnknownNumber(0).to_string(), "0 is no refusal number");
 }

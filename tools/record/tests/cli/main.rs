@@ -1,6 +1,7 @@
 //! The program `record` as people run it.
 mod check;
 mod heard;
+mod log;
 mod output;
 mod pack;
 mod samples;

@@ -1,7 +1,7 @@
 //! What cannot be written is noticed: the status is not 0, and a record is not lost without a word.
 use crate::tool::{matrix_record, worked, Folder, Outcome};
 
-/// A folder with a text, the matrix record of it, the result of that, and targets.
+/// A folder with a text, the matrix record of it, the result of that, targets, and a log.
 fn folder(name: &str) -> Folder {
     let folder = Folder::new(name);
     let matrix = matrix_record(20, (2, 3));
@@ -9,17 +9,19 @@ fn folder(name: &str) -> Folder {
     folder.write("m.bin", matrix);
     folder.write("m.txt", folder.run(&["show", "m.bin"]).stdout);
     folder.write("t.txt", "1 2 3 4 5 6 7 8i");
+    folder.write("l.bin", [7, 0, 0, 0, 100, 0xff]);
     folder
 }
 
 /// Commands that are in order, and the status of each where its output cannot be written.
-const COMMANDS: [(&[&str], i32); 8] = [
+const COMMANDS: [(&[&str], i32); 9] = [
     (&["pack", "m.txt", "-"], 1),
     (&["pack", "m.txt", "new.bin"], 1),
     (&["show", "m.bin"], 1),
     (&["check", "m.bin", "r.bin"], 1),
     (&["verify", "m.bin", "r.bin"], 2),
     (&["weights", "r.bin", "t.txt"], 1),
+    (&["log", "l.bin"], 1),
     (&["--help"], 1),
     (&["--version"], 1),
 ];
@@ -75,6 +77,7 @@ fn a_reader_that_stops_early_is_noticed_quietly() {
         (&["check", "m.bin", "-"], "r.bin", 1),
         (&["verify", "m.bin", "-"], "r.bin", 2),
         (&["weights", "r.bin", "-"], "t.txt", 1),
+        (&["log", "-"], "l.bin", 1),
     ] {
         let outcome = folder.run_with_output_unread(arguments, &folder.read(input));
         assert_eq!((outcome.status, outcome.stderr.as_str()), (status, ""));

@@ -104,9 +104,11 @@ fn a_refusal_is_shown_in_the_words_of_the_host_crate() {
 fn what_is_no_record_is_refused_in_words() {
     let folder = Folder::new("show-bad");
     let kind = "the engine refuses it with number 1: \
-                the record is empty or its kind byte is not the one expected";
+                the record is empty or its kind byte is not the one expected, \
+                or a log has no such kind of entry";
     let length = "the engine refuses it with number 2: \
-                  the record's length is not 257 bytes for a matrix or 2,049 bytes for a result";
+                  the record's length is not 257 bytes for a matrix or 2,049 bytes for a result, \
+                  or a log entry's body has not the length of its kind";
     for (bytes, message) in [
         (vec![], format!("empty: {kind}")),
         (vec![0x7f; 257], format!("the kind byte is 7F; records begin with 01 (matrix), 02 (result) or 03 (refusal): {kind}")),

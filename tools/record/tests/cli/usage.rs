@@ -11,6 +11,7 @@ fn help_is_printed() {
         (&["check", "--help"], "Usage: record check MATRIX RESULT\n"),
         (&["verify", "-h"], "Usage: record verify MATRIX RESULT\n"),
         (&["weights", "-h"], "Usage: record weights RESULT TARGETS\n"),
+        (&["log", "--help"], "Usage: record log FILE\n"),
     ] {
         let outcome = folder.run(arguments);
         assert_eq!((outcome.status, outcome.stderr.as_str()), (0, ""));
@@ -27,6 +28,7 @@ fn a_wrong_command_line_is_an_error_of_status_2() {
     let check = "usage: record check MATRIX RESULT";
     let verify = "usage: record verify MATRIX RESULT";
     let weights = "usage: record weights RESULT TARGETS";
+    let log = "usage: record log FILE";
     for (arguments, message) in [
         (&[][..], "no command given".to_string()),
         (&["list"], "unknown command 'list'".into()),
@@ -64,6 +66,8 @@ fn a_wrong_command_line_is_an_error_of_status_2() {
             &["weights", "a", "b", "c"],
             format!("2 file names needed, 3 given; {weights}"),
         ),
+        (&["log"], format!("1 file name needed, 0 given; {log}")),
+        (&["log", "-d", "a"], format!("unknown option '-d'; {log}")),
     ] {
         let outcome = folder.run(arguments);
         let expected = format!("record: {message}\nTry 'record --help'.\n");

@@ -1,0 +1,1 @@
+// Theorems on the log: definitions and laws, and no code.
