@@ -10,26 +10,30 @@ use lib.Pow.{shr_mono}
 use mir.Syntax.{w64}
 use mir.Val.{to_z, of_z}
 use Rattle.cordic.specs.declared.Pair.{Pair}
-use Rattle.cordic.specs.Range.{InRange, bound}
+use Rattle.cordic.specs.Range.{InRange}
 use Rattle.cordic.specs.MicroRotation.{micro_rotation_of, micro_rotations, leading, sign}
 use Rattle.integers.proofs.Magnitude.{mag-add, mag-sub, mag_shr_is, read_back, nonneg_test}
 
 -- ---- how far the words grow
+
+-- the bound after n micro-rotations, from any words of 32 bits, negated or not
+bound : ℕ → ℕ
+bound zero = 2 ^ 31
+bound (suc n) = bound n + bound n / 2 ^ n + 1
 
 bound-up : (k n : ℕ) → bound n ≤ bound (k + n)
 unfolding bound
 bound-up zero n = rw zero-add (le_refl (bound n))
 bound-up (suc k) n = rw suc-add (omega (arith, bound-up k n))
 
--- it stays within what the gain can scale
-pub bound-small : (n : ℕ) → n ≤ 28 → bound n < 2 ^ 33 + 2 ^ 32
+bound-small : (n : ℕ) → n ≤ 28 → bound n < 2 ^ 33 + 2 ^ 32
 unfolding bound
 bound-small n h =
     let e : 28 - n + n ≡ 28 = omega arith in
     let top : bound (28 - n + n) < 2 ^ 33 + 2 ^ 32 = rw e (omega arith) in
     omega (arith, bound-up (28 - n) n)
 
-pub micro_rotation_within : (n : ℕ) (s : Bool) (p : Pair) → InRange (bound n) p → InRange (bound (suc n)) (micro_rotation_of n s p)
+micro_rotation_within : (n : ℕ) (s : Bool) (p : Pair) → InRange (bound n) p → InRange (bound (suc n)) (micro_rotation_of n s p)
 unfolding micro_rotation_of bound
 micro_rotation_within n true p h =
     record {

@@ -15,8 +15,8 @@ pub record Small (M : ℕ) (c : Pair) : Type 0 where
 
 -- how large u² + v² may be before a rotation
 abbrev pub norm_bound : ℕ
-norm_bound = 2 ^ 60 + 2 ^ 58 + 2 ^ 56
+norm_bound = 2 ^ 60 + 2 ^ 44
 
--- each word then stays within this through all 28 micro-rotations: it fits 32 bits, and so do its negative and the number after it
+-- each word then stays within this through all 28 micro-rotations
 abbrev pub most : ℕ
-most = 2 ^ 31 - 2
+most = 2 ^ 31 - 1

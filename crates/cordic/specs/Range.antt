@@ -1,5 +1,5 @@
 -- Only the contracts of inner functions use this: the range of a column's two words between micro-rotations. Assumes nothing.
-use Rattle.std.specs.Prelude.{ℕ, zero, suc, ◌+◌, ◌/◌, ◌^◌, ◌≤◌}
+use Rattle.std.specs.Prelude.{ℕ, ◌≤◌}
 use Rattle.std.specs.Int.Signed.{mag}
 use Rattle.cordic.specs.declared.Pair.{Pair}
 
@@ -7,8 +7,3 @@ use Rattle.cordic.specs.declared.Pair.{Pair}
 pub record InRange (b : ℕ) (p : Pair) : Type 0 where
   pub upper : mag p.u ≤ b
   pub lower : mag p.v ≤ b
-
--- how far words of 32 bits, negated or not, have grown after n micro-rotations
-unfoldable pub bound : ℕ → ℕ
-bound zero = 2 ^ 31
-bound (suc n) = bound n + bound n / 2 ^ n + 1

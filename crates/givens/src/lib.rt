@@ -31,8 +31,10 @@ pub fn rotate(part: &mut [i32], column: usize, gap: usize) -> Tally
         };
     }
     let base = gap * 32;
-    if narrow::admits(&part[..], base, column) {
-        narrow::rotate_in(part, column, gap);
+    if narrow::norms_bounded(&part[..], base, column) {
+        let mut us = [0i32; 32];
+        let mut vs = [0i32; 32];
+        narrow::rotate_in(part, column, gap, &mut us[..], &mut vs[..]);
         let saturations = Saturations::none();
         return Tally {
             made: 1,

@@ -1,11 +1,3 @@
+-- Laws of 32-bit words and of the columns that are worked in them, which several proofs cite.
 pub mod Mask
-pub mod Complement
 pub mod Norms
-pub mod Sizes
-pub mod Testing
-pub mod Steps
-pub mod Leading
-pub mod Rows
-pub mod Lanes
-pub mod Groups
-pub mod Parts

@@ -1,19 +1,50 @@
--- Columns whose u² + v² is within the bound: their words fit 32 bits before, between and after the 28 micro-rotations. Assumes nothing.
-use Prim.Native.Nat.{ℕ, suc, ◌+◌, ◌≤◌, ◌<◌}
+-- Columns whose u² + v² is at most 2^60 + 2^44: their words fit 32 bits before, between and after the 28 micro-rotations, and none saturates.
+-- Assumes nothing.
+use Prim.Native.Nat.{ℕ, suc, ◌+◌, ◌*◌, ◌≤◌, ◌<◌}
 use native.Mathlib.Nat.{le_of_lt, le_trans}
 use mathlib.Core.Path.{◌≡◌}
-use mathlib.Core.Bool.{Bool}
-use lib.Dec.{lit≤}
-use lib.IntN.{ℤ}
+use mathlib.Core.Bool.{Bool, true}
+use mathlib.Core.List.{List}
+use lib.Dec.{leb, lit≤}
+use lib.IntN.{ℤ, pos}
+use lib.ListN.{get_or}
+use borrow.Author.Tests.{lt-ltb, le-ltb, leb-true}
 use Rattle.integers.proofs.Within.{within}
 use Rattle.integers.proofs.Laws.{abs_squares}
 use Rattle.integers.specs.Square.{square}
+use Rattle.lists.proofs.Passing.{Passed, all_at, all_of}
 use Rattle.cordic.specs.Norm.{Small, norm_bound, most}
 use Rattle.cordic.specs.declared.Pair.{Pair}
 use Rattle.cordic.specs.MicroRotation.{oriented_pair, micro_rotations}
 use Rattle.cordic.proofs.Telescope.{squares_small, near_small, kept_steps}
 use Rattle.cordic.proofs.ColumnRotation.{orient_dot}
-use Rattle.narrow.specs.Narrow.{Bounded, Narrow}
+use Rattle.rotation.specs.Rotated.{saturations_of}
+use Rattle.rotation.specs.Saturations.{no_saturations}
+use Rattle.rotation.proofs.Column.{saturations_none}
+use Rattle.narrow.specs.Narrow.{Bounded, normBounded, normsBounded, Narrow}
+
+-- ---- the test of the columns
+
+-- column k of the part, from the leading one on
+module _ (base c : ℕ) (l : List ℤ) (k : ℕ) (from : c ≤ k) where
+  pub test-is : normBounded base c l k ≡ leb (square (get_or l k (pos 0)) + square (get_or l (base + k) (pos 0))) norm_bound
+  unfolding normBounded
+  test-is = rw (le-ltb k c from)
+
+  pub bounded_at : normsBounded base c l ≡ true → k < 32 → square (get_or l k (pos 0)) + square (get_or l (base + k) (pos 0)) ≤ norm_bound
+  unfolding normsBounded
+  bounded_at h below = leb-true _ _ (rw test-is at (all_at (normBounded base c l) 32 h k below))
+
+-- the columns before the leading one pass
+pub test-none : (base c : ℕ) (l : List ℤ) → c ≤ 32 → Passed 32 (normBounded base c l) c
+unfolding normBounded
+test-none base c l h = record { within = h; held = all_of (normBounded base c l) c (λ k below. rw (lt-ltb k c below)) }
+
+-- where the test holds, the rotation counts nothing
+pub bounded-none : (c gap : ℕ) (l : List ℤ) → normsBounded (gap * 32) c l ≡ true → saturations_of c gap l ≡ no_saturations
+bounded-none c gap l h =
+    saturations_none c gap l
+    (λ k from below. within (rw (abs_squares (get_or l k (pos 0)) (get_or l (gap * 32 + k) (pos 0))) (bounded_at (gap * 32) c l k from h below)))
 
 -- ---- the words of such a column
 pub bounded_words : (x y : ℤ) → square x + square y ≤ norm_bound → Small most (record { u = x; v = y })

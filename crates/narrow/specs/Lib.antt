@@ -1,6 +1,2 @@
--- Where a rotation can be worked in 32-bit words, and what its inner functions hold.
+-- Where a rotation can be worked in 32-bit words.
 pub mod Narrow
-pub mod Masks
-pub mod Columns
-pub mod Directions
-pub mod Blocks

@@ -12,11 +12,11 @@ use Rattle.cordic.specs.declared.Pair.{Pair}
 use Rattle.rotation.specs.Stores.{pair_at, Columns}
 
 module _ (us vs : List ℤ) (k : ℕ) (x y : ℤ) where
-  pub pair_same : k < length us → k < length vs → pair_at (set us k x) (set vs k y) k ≡ record { u = x; v = y }
+  pair_same : k < length us → k < length vs → pair_at (set us k x) (set vs k y) k ≡ record { u = x; v = y }
   unfolding pair_at
   pair_same h g = rw (get_or-set_same us k x (pos 0) h, get_or-set_same vs k y (pos 0) g)
 
-  pub pair_other : (j : ℕ) → j ≢ k → pair_at (set us k x) (set vs k y) j ≡ pair_at us vs j
+  pair_other : (j : ℕ) → j ≢ k → pair_at (set us k x) (set vs k y) j ≡ pair_at us vs j
   unfolding pair_at
   pair_other j d = rw (get_or-set_other us k j x (pos 0) d, get_or-set_other vs k j y (pos 0) d)
 

@@ -1,123 +1,91 @@
--- `rotate_in` meets its contract. The loop's invariant: the sides before side g are worked. Assumes nothing.
-use Prim.Native.Nat.{ℕ, ◌≤◌, ◌<◌, ◌-◌, ◌+◌, ◌*◌}
-use native.Mathlib.Nat.{zero-add}
+-- `rotate_in` meets its contract. Assumes nothing.
+use Prim.Native.Nat.{ℕ, ◌+◌, ◌-◌, ◌*◌, ◌≤◌, ◌<◌}
+use native.Mathlib.Nat.{add-zero}
 use native.Mathlib.Omega.{arith}
-use mathlib.Core.Path.{◌≡◌, refl, ap, ◌∙◌}
-use lib.IntN.{ℤ, pos}
-use lib.ListN.{length, get_or}
-use lib.Signed.{lt_z}
-use mir.Syntax.{w32}
-use mir.Val.{SFits, to_z, of_z}
-use mir.Facts.{to_z-of_z}
+use mathlib.Core.Path.{◌≡◌, ap, ◌∙◌}
 use borrow.Author.Rules.{rules}
-use Rattle.narrow.specs.Masks.{told}
-use Rattle.narrow.specs.Blocks.{Worked, Fitting, turned_at}
-use Rattle.narrow.proofs.Parts.{masks_told, all_bounded, none_worked, side_fitting, side_worked, final_rotated}
+use Rattle.rotation.specs.Column.{stored, column_at, rotated_at, column_stored}
+use Rattle.rotation.specs.Stores.{pair_at}
+use Rattle.rotation.proofs.Stores.{rows_same, rows-rotated}
+use Rattle.narrow.proofs.Norms.{bounded_at, bounded-oriented}
 use Rattle.narrow.proofs.rotate_in.Statement.{statement}
 use Rattle.narrow.proofs.rotate_in.Tie as tie
 
-abbrev invariant-loop : tie.invariant-loop
-invariant-loop part₀ column gap base sign masks g₀ part g = (g ≤ 2) × Worked (turned_at (told masks) (lt_z (to_z w32 sign) (pos 0)) base part₀) base 0 (g * 16) part₀ part
-
-abbrev decreases-loop : tie.decreases-loop
-decreases-loop part₀ column gap base sign masks g₀ part g = 2 - g
-
-mul-base : tie.Need-overflow-mul-base invariant-loop decreases-loop
+mul-base : tie.Need-overflow-mul-base
 mul-base c = search rules
 
-mul-sign : tie.Need-overflow-mul-sign invariant-loop decreases-loop
-mul-sign c = search rules
+orient-columns-requires : tie.Need-orient-columns-requires
+orient-columns-requires c κs = search rules
 
-slice-copy-out-sign : tie.Need-slice-copy-out-sign invariant-loop decreases-loop
-slice-copy-out-sign c = search rules
+sub-rotate-columns : tie.Need-overflow-sub-rotate-columns
+sub-rotate-columns c = search rules
 
-of-part-requires : tie.Need-of-part-requires invariant-loop decreases-loop
-of-part-requires c κs = let p = c.before.before.before.requires in (p.0, p.2, refl)
-
-loop-holds : tie.Need-loop-init invariant-loop decreases-loop
-loop-holds c = (omega arith, none_worked _ _ _)
-
-mul-side : tie.Need-overflow-mul-side invariant-loop decreases-loop
-mul-side c = omega arith
-
--- what the test gives for all columns
-fitting : (s : tie.Start invariant-loop decreases-loop) → Fitting (s.args.gap * 32) 0 32 s.args.part.now
-fitting s =
-    record {
-      bounded = λ j q. rw (zero-add j) (all_bounded (s.args.gap * 32) s.args.column s.args.part.now s.requires.3 j q);
-    }
-
-side-requires : tie.Need-side-requires invariant-loop decreases-loop
-side-requires c κs =
-    let a = c.before.before.before in
-    let s = a.before.before.before.before.before in
-    let l = a.loop in
-    let q : l.g < 2 = omega arith in
-    let base : 32 ≤ s.args.gap * 32 = omega (arith, s.requires.1) in (
-      (
-        omega (arith, q),
-        base,
-        rw l.invariant.1.long s.requires.2,
-        masks_told a.before.of_part.ensures,
-      ),
-      side_fitting _ _ (s.args.gap * 32) (l.g * 16) s.args.part.now l.part (omega (arith, q, base)) l.invariant.1 (fitting s) (omega (arith, q)),
+rotate-columns-requires : tie.Need-rotate-columns-requires
+unfolding column_at
+rotate-columns-requires c κs =
+    let d = c.before.before.before.before in
+    let s = d.before.before.before.before in
+    let kept = d.orient-columns.auto.1.1.1 in
+    let l = s.args.part.now in (
+      (omega arith, omega arith, kept.0 ∙ s.requires.0.3, kept.1.0 ∙ s.requires.0.4),
+      λ j below.
+          rw (d.orient-columns.ensures j (omega arith) below)
+          (bounded-oriented _ _ _ (bounded_at (s.args.gap * 32) s.args.column l (s.args.column + j) (omega arith) s.requires.1 (omega arith))),
     )
 
-add-g : tie.Need-overflow-add-g invariant-loop decreases-loop
-add-g c = omega arith
+store-rows-requires : tie.Need-store-rows-requires
+store-rows-requires c κs = search rules
 
-loop-less : tie.Need-loop-smaller invariant-loop decreases-loop
-loop-less c = omega arith
+same_length : tie.Need-same-length
+same_length c = search rules
 
-loop-again : tie.Need-loop-preserved invariant-loop decreases-loop
-loop-again c =
-    let a = c.before.before.before.before.before in
-    let s = a.before.before.before.before.before in
-    let l = a.loop in
-    let q : l.g < 2 = omega arith in
-    let e : l.g * 16 + 16 ≡ (l.g + 1) * 16 = omega arith in
-    (omega (arith, q), rw e at (side_worked _ _ (s.args.gap * 32) (l.g * 16) s.args.part.now l.part (omega (arith, q, s.requires.1)) l.invariant.1 _ c.before.side.ensures))
+same-length-2 : tie.Need-same-length-2
+same-length-2 c = search rules
 
-add-part : tie.Need-overflow-add-part invariant-loop decreases-loop
-add-part c = omega arith
+same-length-3 : tie.Need-same-length-3
+same-length-3 c = search rules
 
-mul-part : tie.Need-overflow-mul-part invariant-loop decreases-loop
-mul-part c = omega arith
+-- each column as it is stored
+stored_is : (c : tie.After-rotate-columns) → let a = c.before.before.before.before.before.before.before.before.before.args in (k : ℕ) → a.column ≤ k → k < 32 → stored (pair_at c.rotate-columns.new.1.0 c.rotate-columns.new.1.1.0 (k - a.column)) ≡ column_stored a.column a.gap a.part.now k
+unfolding column_stored rotated_at
+stored_is c k from below =
+    let s = c.before.before.before.before.before.before.before.before.before in
+    let j = k - s.args.column in
+    let e = c.before.before.before.before.before.orient-columns.ensures in
+    let here : s.args.column + j ≡ k = omega arith in
+    ap stored
+    (c.rotate-columns.ensures j (omega arith) (omega arith)
+    ∙ rw (e 0 (omega arith) (omega arith), e j (omega arith) (omega arith), add-zero, here)
+    )
 
-slice-set-of-part : tie.Need-slice-set-of-part invariant-loop decreases-loop
-slice-set-of-part c = let s = c.before.before.before.before.before.before in omega (arith, c.before.loop.invariant.1.long, s.requires.0, s.requires.2)
-
-same_length : tie.Need-same-length invariant-loop decreases-loop
-same_length c = ?
-
-returns : tie.Need-returns invariant-loop decreases-loop
+returns : tie.Need-returns
 returns c =
-    let a = c.before in
-    let s = a.before.before.before.before.before in
-    let l = a.loop in
-    let e : l.g ≡ 2 = omega (arith, l.invariant.0) in
-    let x : SFits w32 (get_or s.args.part.now s.args.column (pos 0)) = search rules in
-    final_rotated s.args.column s.args.gap s.args.part.now l.part _ s.requires.0 s.requires.1 s.requires.2 s.requires.3 a.before.of_part.ensures
-    (rw (e, to_z-of_z x) at l.invariant.1)
+    let d = c.before.before.before.before.before.before.before in
+    let s = d.before.before.before.before.before.before.before.before.before in
+    let a = s.args in
+    let l = a.part.now in
+    let p = s.requires.0 in
+    c.before.store-rows.ensures
+    ∙ rows_same
+    (λ (k : ℕ). stored (pair_at d.rotate-columns.new.1.0 d.rotate-columns.new.1.1.0 (k - a.column)))
+    (column_stored a.column a.gap l)
+    a.column
+    p.0
+    (stored_is d)
+    (a.gap * 32)
+    l
+    ∙ rows-rotated a.column a.gap l p.0 p.1 p.2
 
 pub rotate-in-spec : {M : Type 1} → statement M
 rotate-in-spec =
     tie.close
     (tie.spec
-    invariant-loop
-    decreases-loop
     mul-base
-    mul-sign
-    slice-copy-out-sign
-    of-part-requires
-    loop-holds
-    mul-side
-    side-requires
-    add-g
-    loop-less
-    loop-again
-    add-part
-    mul-part
-    slice-set-of-part
+    orient-columns-requires
+    sub-rotate-columns
+    rotate-columns-requires
+    store-rows-requires
     same_length
+    same-length-2
+    same-length-3
     returns)
