@@ -2,6 +2,9 @@
 // the matrix of two snapshots, the weights of a matrix, the verdict on a result just made, a log swept and added to, a sector served at a desk with the
 // next matrix early, and a round begun there. Each answers the replies of all calls that it makes, so that whoever calls it sees the first refusal. The
 // words here are document 01's own.
+
+#![tactic(auto)]
+
 ghost use Rattle.std.specs.Prelude.{◌≡◌};
 ghost use Rattle.journal.specs.Outcome.{used_after_of};
 ghost use Rattle.caller.specs.Caller.{HalvesOutcome, halves_of, AgainOutcome, again_of, CopyOutcome, copy_of, PairOutcome, pair_of, WeighedOutcome, weighed_of, VerifiedOutcome, verified_of, DailyOutcome, daily_of, ServedOutcome, served_of, RoundOutcome, round_of};

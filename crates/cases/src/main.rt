@@ -1,5 +1,8 @@
 // Executes the run-only cases of document 01, "Bench values", and of document 02, U3 and U5, through the calls that hosts link. Each call becomes a
 // line: what was handed over, the reply, and digests of the memory that it may write to.
+
+#![tactic(auto)]
+
 mod calls;
 mod digest;
 mod matrix;

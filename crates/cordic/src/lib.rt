@@ -1,5 +1,7 @@
 // The engine's word, and the micro-rotation of a column's two words.
 
+#![tactic(auto)]
+
 ghost use Rattle.std.specs.Prelude.{◌≡◌, ◌+◌, ◌<◌, ◌≤◌, ◌^◌};
 ghost use Rattle.std.specs.Int.Signed.{mag};
 ghost use Rattle.cordic.specs.Word.{scaled, saturate};

@@ -1,5 +1,8 @@
 // The covariance of snapshots: what the eight antennas heard at one instant, added up product by product, and the matrix record that the sums give.
 // Each call tests its own input, in the order that document 02 lists, and refuses by the number of the first test that fails.
+
+#![tactic(auto)]
+
 pub mod add;
 mod product;
 mod range;

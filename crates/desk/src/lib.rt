@@ -1,6 +1,9 @@
 // A desk for eight sectors over the engine: each sector has its own job, heard byte and area, its own share of a round, and room for one matrix that waits.
 // The host keeps the desk and hands it to each call, which answers it anew. Each call but the making of a new desk is handed the role of whoever makes it,
 // tests its own input and refuses by the number of the first test that fails, with the desk and every lent buffer as they were and all other fields 0.
+
+#![tactic(auto)]
+
 pub mod fetch;
 pub mod hand_in;
 pub mod heard;

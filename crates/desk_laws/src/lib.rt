@@ -1,1 +1,3 @@
 // The theorems on the desk that speak of more than one call: no code.
+
+#![tactic(auto)]

@@ -1,4 +1,7 @@
 // One turn of the part of the workspace that begins at its upper row: a rotation, or nothing where it is already clear.
+
+#![tactic(auto)]
+
 ghost use Rattle.std.specs.Prelude.{◌≡◌, ◌<◌, ◌≤◌, ◌+◌, ◌*◌, length};
 ghost use Rattle.rotation.specs.Turn.{is_clear_of, turned, turn_saturations, turn_made};
 

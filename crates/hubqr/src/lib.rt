@@ -1,5 +1,8 @@
 // The engine's five calls for C and Rust hosts. Each hands on the engine's reply, whose values are document 01's. The words here are document
 // 01's own.
+
+#![tactic(auto)]
+
 pub mod boards;
 pub mod log;
 pub mod modem;

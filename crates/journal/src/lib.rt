@@ -1,5 +1,8 @@
 // A log in a lent buffer: results, refusals and heard bytes, one entry after another, each kept for as many days as its kind. Each call tests its own input,
 // in the order that document 02 lists, and refuses by the number of the first test that fails. The caller keeps the count of used bytes.
+
+#![tactic(auto)]
+
 pub mod add;
 mod copy;
 mod format;

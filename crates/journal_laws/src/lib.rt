@@ -1,1 +1,3 @@
 // Theorems on the log: definitions and laws, and no code.
+
+#![tactic(auto)]

@@ -1,4 +1,7 @@
 // The matrix record: its elements, the real matrix made of them, what the antennas heard, and the tests of a record by itself.
+
+#![tactic(auto)]
+
 ghost use Rattle.std.specs.Prelude.{◌≡◌, ◌<◌, ◌≤◌, length};
 ghost use Rattle.std.specs.Int.Signed.{mag};
 ghost use Rattle.matrix_record.specs.MatrixRecord.{matrix_bytes, part_of, real_entry_of, antenna_heard_of, heard_byte_of, matrix_refusal};

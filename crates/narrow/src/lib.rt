@@ -5,6 +5,9 @@
 // The two rows to work in hold the columns from the leading one on, the leading one first, and not each column at its own place. So
 // the compiler's vectors of words begin where an array does and straddle no two cache lines; straddling them cost half as much time
 // again, in one of four places that the stack may put the arrays.
+
+#![tactic(auto)]
+
 ghost use Rattle.std.specs.Prelude.{◌≡◌, true, false, ℕ, ◌^◌, ◌<◌, ◌≤◌, ◌+◌, ◌-◌, ◌*◌, pos, length, get_or};
 ghost use Rattle.std.specs.Int.Signed.{lt_z, non_neg};
 ghost use Rattle.integers.specs.Within.{Within};

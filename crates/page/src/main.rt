@@ -1,5 +1,8 @@
 // Reads up to 2,050 bytes from standard input, in however many pieces they arrive, and writes the page of the result record, or the number of its
 // refusal. One byte more than a result record is read, so that a longer input is refused and not cut.
+
+#![tactic(auto)]
+
 use libc::{STDERR_FILENO, STDIN_FILENO, STDOUT_FILENO};
 
 fn main() {

@@ -1,4 +1,7 @@
 // What the program `page` makes of its input: R of a result record as text, or the number of a refused record.
+
+#![tactic(auto)]
+
 ghost use Rattle.std.specs.Prelude.{◌≡◌, ◌++◌, ◌<◌, ◌≤◌, nat_abs, length, drop, replicate};
 ghost use Rattle.result_record.specs.ResultRecord.{result_bytes, record_r};
 ghost use Rattle.page_text.specs.Decimal.{blank, field};

@@ -1,1 +1,3 @@
 // Theorems on pages: definitions and laws, and no code.
+
+#![tactic(auto)]

@@ -1,5 +1,8 @@
 // Reads up to 258 bytes from standard input, in however many pieces they arrive, and writes the result record or the refusal record. One
 // byte more than a matrix record is read, so that a longer input is refused and not cut.
+
+#![tactic(auto)]
+
 use libc::{STDERR_FILENO, STDIN_FILENO, STDOUT_FILENO};
 
 fn main() {

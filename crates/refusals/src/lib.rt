@@ -1,4 +1,7 @@
 // The refusal numbers, the test of a record's header, and the refusal record.
+
+#![tactic(auto)]
+
 ghost use Rattle.std.specs.Prelude.{◌≡◌};
 ghost use Rattle.refusals.specs.Refusals.{header_test, refusal_record_of};
 

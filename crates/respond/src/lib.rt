@@ -1,4 +1,7 @@
 // What the program `qr` makes of its input, on slices: Whole, and the result record or the refusal record.
+
+#![tactic(auto)]
+
 ghost use Rattle.std.specs.Prelude.{◌≡◌, ◌++◌, ◌≤◌, length, drop};
 ghost use Rattle.respond.specs.Response.{response};
 

@@ -1,4 +1,7 @@
 // The result record: its words, as those of R and of Q, the test of R, and the tests of a record by itself.
+
+#![tactic(auto)]
+
 ghost use Rattle.std.specs.Prelude.{◌≡◌, ◌<◌, length};
 ghost use Rattle.lists.specs.Lists.{all_below};
 ghost use Rattle.result_record.specs.ResultRecord.{result_bytes, record_word, record_r, record_q, is_finished_at, is_finished, record_refusal_of};

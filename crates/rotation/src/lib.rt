@@ -1,5 +1,8 @@
 // One rotation: what it counts, and what comes of a turn. Their definitions stand in specs/; the crates `wide` and `narrow` make a rotation, and
 // `givens` a turn.
+
+#![tactic(auto)]
+
 ghost use Rattle.std.specs.Prelude.{◌≡◌};
 ghost use Rattle.rotation.specs.Saturations.{no_saturations, added, CountOf};
 

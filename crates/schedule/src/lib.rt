@@ -1,4 +1,7 @@
 // The schedule (document 01's tree order): column, upper row and lower row of each of the 120 rotations, as bytes, and the lookup of one.
+
+#![tactic(auto)]
+
 ghost use Rattle.std.specs.Prelude.{◌≡◌, ◌<◌};
 ghost use Rattle.schedule.specs.Schedule.{rotation_count, schedule, flat, rotation_at_of};
 

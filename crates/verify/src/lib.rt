@@ -1,5 +1,8 @@
 // Whether a result record factors a matrix record within the limits of demand 3, whoever wrote it. The call tests its own input, in the order that document
 // 02 lists, and refuses by the number of the first test that fails.
+
+#![tactic(auto)]
+
 mod pairs;
 mod sums;
 

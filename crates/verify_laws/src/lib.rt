@@ -1,1 +1,3 @@
 // Theorems on verdicts: definitions and laws, and no code.
+
+#![tactic(auto)]

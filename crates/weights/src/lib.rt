@@ -1,5 +1,8 @@
 // Weights for the modem: R times w = Q transposed times the target, solved in 64-bit floats from row 15 up. The call tests its own input, in the order that
 // document 02 lists, and refuses by the number of the first test that fails.
+
+#![tactic(auto)]
+
 mod right;
 mod rows;
 

@@ -1,5 +1,8 @@
 // A rotation in 64-bit words, for any words of the workspace. The micro-rotations are outermost and the columns inside, so that a
 // compiler can work several columns at once.
+
+#![tactic(auto)]
+
 ghost use Rattle.std.specs.Prelude.{◌≡◌, ℕ, ◌^◌, ◌<◌, ◌≤◌, ◌+◌, ◌*◌, length};
 ghost use Rattle.std.specs.Int.Signed.{mag};
 ghost use mir.Val.{bool_byte};

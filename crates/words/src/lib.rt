@@ -1,4 +1,7 @@
 // Bytes and words: high byte first, and two's complement where they are signed.
+
+#![tactic(auto)]
+
 ghost use Rattle.std.specs.Prelude.{◌≡◌, ◌<◌};
 ghost use Rattle.std.specs.Int.Signed.{mag};
 ghost use Rattle.std.specs.Int.{w16, w32};
