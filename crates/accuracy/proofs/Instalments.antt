@@ -86,7 +86,7 @@ module _ (l : Load) where
 pub instalments_possible : InstalmentsPossible
 unfolding EachInStep Taken
 instalments_possible l budgets buffer = record {
-  in_step = λ c p z. taken_in_step _ c (all_taken l budgets buffer c p);
+  in_step = λ c p z. taken_in_step (after_all after (start l) p.before) c (all_taken l budgets buffer c p);
   runs-accepted = λ r p. (all_taken l budgets buffer (run r) p).0;
   fetch_accepted = last_accepted l budgets buffer;
 }
