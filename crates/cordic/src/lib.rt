@@ -38,6 +38,7 @@ impl Word {
     pub const GAIN: i64 = 652032874;
 
     // The word of a sum after the micro-rotations: scaled by the gain, rounded, and saturated.
+    #[tactic(auto, unfolding(crate::specs::Word::scaled, crate::specs::Word::saturate))]
     pub fn scale_saturate(w: i64) -> Word
         requires { mag w ≤ 2 ^ 33 + 2 ^ 32 }
         ensures { result ≡ saturate (scaled w) }
@@ -63,6 +64,7 @@ impl Word {
 }
 
 // A word as a rotation takes it: negated where the upper leading word is negative.
+#[tactic(auto, unfolding(crate::specs::MicroRotation::oriented))]
 pub fn oriented(negate: bool, w: i32) -> i64
     ensures { result ≡ oriented_z negate w }
 {
@@ -71,6 +73,7 @@ pub fn oriented(negate: bool, w: i32) -> i64
 }
 
 // Micro-rotation i of a column, in the positive or the negative direction.
+#[tactic(auto, unfolding(crate::specs::MicroRotation::micro_rotation_of))]
 pub fn micro_rotation(i: usize, positive: bool, p: Pair) -> Pair
     requires { (i < 28) × InRange (2 ^ 61) p }
     ensures { result ≡ micro_rotation_of i positive p }

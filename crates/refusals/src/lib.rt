@@ -41,6 +41,7 @@ pub const BROKEN_LOG: u8 = 16;
 pub const NO_ROOM: u8 = 17;
 
 // Tests 1 and 2 of a record that has this tag and this length: the number of the first that fails, 0 for none.
+#[tactic(auto, unfolding(crate::specs::Refusals::header_test))]
 pub fn header_refusal(bytes: &[u8], tag: u8, size: usize) -> u8
     ensures { result ≡ header_test tag size bytes.now }
 {
