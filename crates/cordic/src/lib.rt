@@ -73,7 +73,6 @@ pub fn oriented(negate: bool, w: i32) -> i64
 }
 
 // Micro-rotation i of a column, in the positive or the negative direction.
-#[tactic(auto, unfolding(crate::specs::MicroRotation::micro_rotation_of))]
 pub fn micro_rotation(i: usize, positive: bool, p: Pair) -> Pair
     requires { (i < 28) × InRange (2 ^ 61) p }
     ensures { result ≡ micro_rotation_of i positive p }
