@@ -22,6 +22,7 @@ impl Saturations {
     }
 
     // What both counted. The bounds are those of one rotation after at most 119 others, so that no sum wraps.
+    #[tactic(auto, unfolding(crate::specs::Saturations::added))]
     pub fn plus(self, other: Saturations) -> Saturations
         requires { CountOf 119 self × CountOf 1 other }
         ensures { result ≡ added self other }
