@@ -16,6 +16,7 @@ const REFUSAL: u32 = 6;
 const HEARD: u32 = 7;
 
 // The length of the body that a kind fixes, 0 for what is no kind.
+#[tactic(auto, unfolding(crate::specs::Entry::body_length_of))]
 pub(crate) fn body_length(kind: u32) -> usize
     ensures length { result ≡ body_length_of kind }
     ensures small { result < 4096 }
@@ -33,6 +34,7 @@ pub(crate) fn body_length(kind: u32) -> usize
 }
 
 // The days that an entry of a kind stays.
+#[tactic(auto, unfolding(crate::specs::Retention::retention))]
 fn retention_days(kind: u32) -> u64
     ensures days { result ≡ retention kind }
     ensures small { result < 100 }

@@ -17,6 +17,7 @@ pub const BYTES: usize = 257;
 const HEARD_ABOVE: i32 = 16;
 
 // The real (q is 0) or imaginary (q is 1) part of element e.
+#[tactic(auto, unfolding(crate::specs::MatrixRecord::part_of), using(integers::proofs::Magnitude::read_back))]
 fn part(bytes: &[u8], e: usize, q: usize) -> i32
     requires { (length bytes.now ≡ matrix_bytes) × ((e < 64) × (q < 2)) }
     ensures number { result ≡ part_of bytes.now e q }
@@ -27,6 +28,7 @@ fn part(bytes: &[u8], e: usize, q: usize) -> i32
 }
 
 // The entry of the real 16 by 16 matrix at row i, column j.
+#[tactic(auto, unfolding(crate::specs::MatrixRecord::real_entry_of), using(integers::proofs::Magnitude::read_back))]
 pub fn real_entry(bytes: &[u8], i: usize, j: usize) -> i32
     requires { (length bytes.now ≡ matrix_bytes) × ((i < 16) × (j < 16)) }
     ensures entry { result ≡ real_entry_of bytes.now i j }
@@ -47,6 +49,7 @@ pub fn real_entry(bytes: &[u8], i: usize, j: usize) -> i32
 }
 
 // Whether antenna k is heard, by the real part of element (k, k).
+#[tactic(auto, unfolding(crate::specs::MatrixRecord::antenna_heard_of), using(integers::proofs::Magnitude::read_back))]
 fn antenna_heard(bytes: &[u8], k: usize) -> bool
     requires { (length bytes.now ≡ matrix_bytes) × (k < 8) }
     ensures { result ≡ antenna_heard_of bytes.now k }
@@ -55,6 +58,7 @@ fn antenna_heard(bytes: &[u8], k: usize) -> bool
 }
 
 // The heard byte: bit k is set when antenna k is heard.
+#[tactic(auto, unfolding(crate::specs::MatrixRecord::heard_below))]
 pub fn heard_byte(bytes: &[u8]) -> u8
     requires { length bytes.now ≡ matrix_bytes }
     ensures { result ≡ heard_byte_of bytes.now }
@@ -73,6 +77,7 @@ pub fn heard_byte(bytes: &[u8]) -> u8
 }
 
 // Tests 1, 2 and 4 of a record by itself: the number of the first that fails, 0 for none.
+#[tactic(auto, unfolding(crate::specs::MatrixRecord::matrix_refusal), using(refusals::proofs::Refusals::first_is, refusals::proofs::Refusals::header_passed))]
 pub fn record_refusal(bytes: &[u8]) -> u8
     ensures { result ≡ matrix_refusal bytes.now }
 {

@@ -2,3 +2,4 @@
 pub mod ResultRecord
 pub mod Accepted
 pub mod Finished
+pub mod Rows

@@ -14,6 +14,7 @@ pub const TAG: u8 = 2;
 pub const BYTES: usize = 2049;
 
 // Word m of a record.
+#[tactic(auto, unfolding(crate::specs::ResultRecord::record_word), using(integers::proofs::Magnitude::read_back))]
 fn word(bytes: &[u8], m: usize) -> i32
     requires { (length bytes.now ≡ result_bytes) × (m < 512) }
     ensures { result ≡ record_word bytes.now m }
@@ -23,6 +24,7 @@ fn word(bytes: &[u8], m: usize) -> i32
 }
 
 // Word (i, j) of its R.
+#[tactic(auto, unfolding(crate::specs::ResultRecord::record_r), using(integers::proofs::Magnitude::read_back))]
 pub fn r(bytes: &[u8], i: usize, j: usize) -> i32
     requires { (length bytes.now ≡ result_bytes) × ((i < 16) × (j < 16)) }
     ensures { result ≡ record_r bytes.now i j }
@@ -31,6 +33,7 @@ pub fn r(bytes: &[u8], i: usize, j: usize) -> i32
 }
 
 // Word (i, j) of its Q. The record has Q transposed.
+#[tactic(auto, unfolding(crate::specs::ResultRecord::record_q), using(integers::proofs::Magnitude::read_back))]
 pub fn q(bytes: &[u8], i: usize, j: usize) -> i32
     requires { (length bytes.now ≡ result_bytes) × ((i < 16) × (j < 16)) }
     ensures { result ≡ record_q bytes.now i j }
@@ -39,6 +42,7 @@ pub fn q(bytes: &[u8], i: usize, j: usize) -> i32
 }
 
 // Whether a word may stand at row i, column j of a finished R.
+#[tactic(auto, unfolding(crate::specs::ResultRecord::is_finished_at), using(integers::proofs::Magnitude::nonneg_test, integers::proofs::Magnitude::zero_bits))]
 pub fn finished_at(i: usize, j: usize, w: i32) -> bool
     ensures { result ≡ is_finished_at i j w }
 {
@@ -85,6 +89,7 @@ pub fn record_finished(bytes: &[u8]) -> bool
 }
 
 // Tests 1, 2 and 8 of a record by itself: the number of the first that fails, 0 for none.
+#[tactic(auto, unfolding(crate::specs::ResultRecord::record_refusal_of), using(refusals::proofs::Refusals::first_is, refusals::proofs::Refusals::header_passed))]
 pub fn record_refusal(bytes: &[u8]) -> u8
     ensures { result ≡ record_refusal_of bytes.now }
 {
