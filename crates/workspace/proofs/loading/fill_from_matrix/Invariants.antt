@@ -1,0 +1,11 @@
+-- The first k words are filled. Assumes nothing.
+use Rattle.std.proofs.Common.{◌-◌}
+use Rattle.lists.proofs.Filling.{Filling}
+use Rattle.workspace.specs.Loading.{loaded_word_of}
+use Rattle.workspace.proofs.loading.fill_from_matrix.Given as goal
+
+abbrev pub invariant-loop-k : goal.invariant-loop-k
+invariant-loop-k l = Filling 512 (loaded_word_of l.bytes) l.fn.workspace l.k l.workspace
+
+abbrev pub decreases-loop-k : goal.decreases-loop-k
+decreases-loop-k l = 512 - l.k
