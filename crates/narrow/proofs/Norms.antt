@@ -21,28 +21,28 @@ use Rattle.cordic.proofs.ColumnRotation.{orient_dot}
 use Rattle.rotation.specs.Rotated.{saturations_of}
 use Rattle.rotation.specs.Saturations.{no_saturations}
 use Rattle.rotation.proofs.Column.{saturations_none}
-use Rattle.narrow.specs.Narrow.{Bounded, normBounded, normsBounded, Narrow}
+use Rattle.narrow.specs.Narrow.{Bounded, norm_bounded, norms_bounded_of, Narrow}
 
 -- ---- the test of the columns
 
 -- column k of the part, from the leading one on
 module _ (base c : ℕ) (l : List ℤ) (k : ℕ) (from : c ≤ k) where
-  pub test-is : normBounded base c l k ≡ leb (square (get_or l k (pos 0)) + square (get_or l (base + k) (pos 0))) norm_bound
-  unfolding normBounded
-  test-is = rw (le-ltb k c from)
+  pub test_is : norm_bounded base c l k ≡ leb (square (get_or l k (pos 0)) + square (get_or l (base + k) (pos 0))) norm_bound
+  unfolding norm_bounded
+  test_is = rw (le-ltb k c from)
 
-  pub bounded_at : normsBounded base c l ≡ true → k < 32 → square (get_or l k (pos 0)) + square (get_or l (base + k) (pos 0)) ≤ norm_bound
-  unfolding normsBounded
-  bounded_at h below = leb-true _ _ (rw test-is at (all_at (normBounded base c l) 32 h k below))
+  pub bounded_at : norms_bounded_of base c l ≡ true → k < 32 → square (get_or l k (pos 0)) + square (get_or l (base + k) (pos 0)) ≤ norm_bound
+  unfolding norms_bounded_of
+  bounded_at h below = leb-true _ _ (rw test_is at (all_at (norm_bounded base c l) 32 h k below))
 
 -- the columns before the leading one pass
-pub test-none : (base c : ℕ) (l : List ℤ) → c ≤ 32 → Passed 32 (normBounded base c l) c
-unfolding normBounded
-test-none base c l h = record { within = h; held = all_of (normBounded base c l) c (λ k below. rw (lt-ltb k c below)) }
+pub test_none : (base c : ℕ) (l : List ℤ) → c ≤ 32 → Passed 32 (norm_bounded base c l) c
+unfolding norm_bounded
+test_none base c l h = record { within = h; held = all_of (norm_bounded base c l) c (λ k below. rw (lt-ltb k c below)) }
 
 -- where the test holds, the rotation counts nothing
-pub bounded-none : (c gap : ℕ) (l : List ℤ) → normsBounded (gap * 32) c l ≡ true → saturations_of c gap l ≡ no_saturations
-bounded-none c gap l h =
+pub bounded_none : (c gap : ℕ) (l : List ℤ) → norms_bounded_of (gap * 32) c l ≡ true → saturations_of c gap l ≡ no_saturations
+bounded_none c gap l h =
     saturations_none c gap l
     (λ k from below. within (rw (abs_squares (get_or l k (pos 0)) (get_or l (gap * 32 + k) (pos 0))) (bounded_at (gap * 32) c l k from h below)))
 
@@ -51,16 +51,16 @@ pub bounded_words : (x y : ℤ) → square x + square y ≤ norm_bound → Small
 bounded_words x y h = squares_small most (record { u = x; v = y }) (within (rw (abs_squares x y) (le_trans h (lit≤ tt))))
 
 -- orienting it does not change the sum
-pub bounded-oriented : (n : Bool) (x y : ℤ) → square x + square y ≤ norm_bound → Bounded (oriented_pair n x y)
-bounded-oriented n x y h =
+pub bounded_oriented : (n : Bool) (x y : ℤ) → square x + square y ≤ norm_bound → Bounded (oriented_pair n x y)
+bounded_oriented n x y h =
     let p : Pair = record { u = x; v = y } in
     record { norm = rw (orient_dot n p p) (within (rw (abs_squares x y) h)) }
 
 -- ---- the micro-rotations of such a column, by any signs
 module _ (s : ℕ → Bool) (p : Pair) (h : Bounded p) where
-  pub small-after : (n : ℕ) → n ≤ 28 → Small most (micro_rotations s n p)
-  small-after n l = near_small n p (micro_rotations s n p) l h.norm (kept_steps p p h.norm h.norm s n l).cc
+  pub small_after : (n : ℕ) → n ≤ 28 → Small most (micro_rotations s n p)
+  small_after n l = near_small n p (micro_rotations s n p) l h.norm (kept_steps p p h.norm h.norm s n l).cc
 
   pub narrow_at : (n : ℕ) → n < 28 → Narrow n (s n) (micro_rotations s n p)
   unfolding micro_rotations
-  narrow_at n l = record { before = small-after n (le_of_lt l); after = small-after (suc n) l }
+  narrow_at n l = record { before = small_after n (le_of_lt l); after = small_after (suc n) l }

@@ -13,12 +13,12 @@ pub record Bounded (p : Pair) : Type 0 where
   pub norm : Within (dot p p) norm_bound
 
 -- the test of column k of the part l, whose lower row begins `base` words on: u² + v² is within that bound, or k lies before column c
-unfoldable pub normBounded : ℕ → ℕ → List ℤ → ℕ → Bool
-normBounded base c l k = ltb k c || leb (square (get_or l k (pos 0)) + square (get_or l (base + k) (pos 0))) norm_bound
+unfoldable pub norm_bounded : ℕ → ℕ → List ℤ → ℕ → Bool
+norm_bounded base c l k = ltb k c || leb (square (get_or l k (pos 0)) + square (get_or l (base + k) (pos 0))) norm_bound
 
 -- the test of every column from column c on
-unfoldable pub normsBounded : ℕ → ℕ → List ℤ → Bool
-normsBounded base c l = all_below 32 (normBounded base c l)
+unfoldable pub norms_bounded_of : ℕ → ℕ → List ℤ → Bool
+norms_bounded_of base c l = all_below 32 (norm_bounded base c l)
 
 -- the words of p fit 32 bits, and so do their negatives, before micro-rotation i and after it
 pub record Narrow (i : ℕ) (positive : Bool) (p : Pair) : Type 0 where

@@ -11,14 +11,14 @@
 ghost use Rattle.std.specs.Prelude.{◌≡◌, true, false, ℕ, ◌^◌, ◌<◌, ◌≤◌, ◌+◌, ◌-◌, ◌*◌, pos, length, get_or};
 ghost use Rattle.std.specs.Int.Signed.{lt_z, non_neg};
 ghost use Rattle.integers.specs.Within.{Within};
-ghost use Rattle.integers.specs.Square.{square as squareOf};
+ghost use Rattle.integers.specs.Square.{square as square_of};
 ghost use Rattle.cordic.specs.Norm.{most};
 ghost use Rattle.cordic.specs.Word.{scaled, saturate};
 ghost use Rattle.cordic.specs.MicroRotation.{micro_rotation_of, micro_rotations, sign, oriented};
 ghost use Rattle.rotation.specs.Column.{column_at, stored};
 ghost use Rattle.rotation.specs.Rotated.{rotated};
 ghost use Rattle.rotation.specs.Stores.{pair_at, Columns, written, rows_written};
-ghost use Rattle.narrow.specs.Narrow.{Narrow, Bounded, normsBounded};
+ghost use Rattle.narrow.specs.Narrow.{Narrow, Bounded, norms_bounded_of};
 
 use cordic::Word;
 
@@ -27,7 +27,7 @@ const NORM_BOUND: u64 = 1152939096792891392;
 
 // The square of a word. The sum of two squares is 2^63 at most: it fits a u64, and not an i64.
 fn square(w: i32) -> u64
-    ensures { (result ≡ squareOf w) × (result ≤ 2 ^ 62) }
+    ensures { (result ≡ square_of w) × (result ≤ 2 ^ 62) }
 {
     let x = w as i64;
     let y = x * x;
@@ -37,7 +37,7 @@ fn square(w: i32) -> u64
 // Whether every column of the part from `column` on has a u² + v² within the bound.
 pub fn norms_bounded(part: &[i32], base: usize, column: usize) -> bool
     requires { (column ≤ 32) × (base + 32 ≤ length part.now) }
-    ensures { result ≡ normsBounded base column part.now }
+    ensures { result ≡ norms_bounded_of base column part.now }
 {
     for k in column..32 {
         let x = part[k];
@@ -99,7 +99,7 @@ fn micro_rotate_columns(i: usize, direction: i32, count: usize, us: &mut [i32], 
 // The columns of the part from the leading one on, oriented by its upper word, as two rows.
 fn orient_columns(part: &[i32], base: usize, column: usize, us: &mut [i32], vs: &mut [i32])
     requires column_bound { (column < 32) × (base + 32 ≤ length part.now) × (length us.old ≡ 32) × (length vs.old ≡ 32) }
-    requires part_value { normsBounded base column part.now ≡ true }
+    requires part_value { norms_bounded_of base column part.now ≡ true }
     ensures { Columns (λ (j : ℕ). column_at (lt_z (get_or part.now column (pos 0)) (pos 0)) base part.now (column + j)) 0 (32 - column) us.new vs.new }
 {
     let sign = part[column];
@@ -170,7 +170,7 @@ fn store_rows(part: &mut [i32], base: usize, column: usize, us: &[i32], vs: &[i3
 // is `gap` rows on. No word saturates.
 pub fn rotate_in(part: &mut [i32], column: usize, gap: usize, us: &mut [i32], vs: &mut [i32])
     requires column_bound { (column < 32) × (1 ≤ gap) × (gap * 32 + 32 ≤ length part.old) × (length us.old ≡ 32) × (length vs.old ≡ 32) }
-    requires part_value { normsBounded (gap * 32) column part.old ≡ true }
+    requires part_value { norms_bounded_of (gap * 32) column part.old ≡ true }
     ensures words { part.new ≡ rotated column gap part.old }
 {
     let base = gap * 32;

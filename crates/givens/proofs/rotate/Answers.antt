@@ -1,6 +1,6 @@
 -- A clear turn is skipped; where the test holds the 32-bit form does the work and nothing is counted, and else the 64-bit form. Assumes nothing.
 use Rattle.std.proofs.Common.{◌∙◌, sym, refl, rules, arith}
-use Rattle.narrow.proofs.Norms.{bounded-none}
+use Rattle.narrow.proofs.Norms.{bounded_none}
 use Rattle.rotation.proofs.Turn.{turn_skipped, turn_rotated}
 use Rattle.givens.proofs.rotate.Goals as goal
 
@@ -31,7 +31,7 @@ returns-then-norms_bounded-clause-words c =
 
 pub returns-then-norms_bounded-clause-saturations : goal.returns-then-norms_bounded-clause-saturations
 returns-then-norms_bounded-clause-saturations c =
-    let none = bounded-none c.args.column c.args.gap c.args.part.now (sym c.norms_bounded.ensures ∙ c.if-norms_bounded.true) in
+    let none = bounded_none c.args.column c.args.gap c.args.part.now (sym c.norms_bounded.ensures ∙ c.if-norms_bounded.true) in
     c.none-saturations-then-norms_bounded.ensures ∙ sym none ∙ (turn_rotated c.args.column c.args.gap c.args.part.now (sym c.is_clear.ensures ∙ c.if-is_clear.false)).1
 
 pub returns-then-norms_bounded-clause-made : goal.returns-then-norms_bounded-clause-made

@@ -7,13 +7,13 @@ use Rattle.cordic.specs.Norm.{Small, most}
 use Rattle.cordic.specs.MicroRotation.{oriented_pair}
 use Rattle.rotation.specs.Column.{column_at}
 use Rattle.rotation.proofs.Pairs.{next}
-use Rattle.narrow.specs.Narrow.{normsBounded}
+use Rattle.narrow.specs.Narrow.{norms_bounded_of}
 use Rattle.narrow.proofs.Mask.{read, back, oriented_is}
 use Rattle.narrow.proofs.Norms.{bounded_at, bounded_words}
 use Rattle.narrow.proofs.orient_columns.Goals as goal
 
 -- the words of the n-th column and their negatives fit
-small : (base column : ℕ) (part : List ℤ) (n : ℕ) → column + n < 32 → normsBounded base column part ≡ true → Small most (record { u = get_or part (column + n) (pos 0); v = get_or part (base + (column + n)) (pos 0) })
+small : (base column : ℕ) (part : List ℤ) (n : ℕ) → column + n < 32 → norms_bounded_of base column part ≡ true → Small most (record { u = get_or part (column + n) (pos 0); v = get_or part (base + (column + n)) (pos 0) })
 small base column part n below h = bounded_words _ _ (bounded_at base column part (column + n) (omega arith) h below)
 
 pub oriented_by-u-requires : goal.oriented_by-u-requires

@@ -9,7 +9,7 @@ use Rattle.cordic.proofs.Growth.{leading_is}
 use Rattle.rotation.specs.Stores.{pair_at, Columns}
 use Rattle.narrow.specs.Narrow.{Bounded}
 use Rattle.narrow.proofs.Mask.{read, back}
-use Rattle.narrow.proofs.Norms.{small-after, narrow_at}
+use Rattle.narrow.proofs.Norms.{small_after, narrow_at}
 use Rattle.narrow.proofs.rotate_columns.Goals as goal
 
 pub loop-i-init : goal.loop-i-init
@@ -21,7 +21,7 @@ sign-is : (f : ℕ → Pair) (us vs : List ℤ) (i count : ℕ) → i ≤ 28 →
 unfolding sign pair_at
 sign-is f us vs i count below some h done =
     let e = done 0 (le_refl 0) some in
-    let w = small-after (sign (f 0)) (f 0) h i below in
+    let w = small_after (sign (f 0)) (f 0) h i below in
     ap non_neg (back (rw (← e) at w).v) ∙ ap (λ (q : Pair). non_neg q.v) (e ∙ sym (leading_is i (f 0)))
 
 pub micro_rotate_columns-requires-clause-by_index : goal.micro_rotate_columns-requires-clause-by_index

@@ -7,7 +7,7 @@ use Rattle.cordic.specs.MicroRotation.{micro_rotations, sign}
 use Rattle.rotation.specs.Column.{stored, column_at, rotated_at, column_stored}
 use Rattle.rotation.specs.Stores.{pair_at, Columns}
 use Rattle.rotation.proofs.Stores.{rows_same, rows-rotated}
-use Rattle.narrow.proofs.Norms.{bounded_at, bounded-oriented}
+use Rattle.narrow.proofs.Norms.{bounded_at, bounded_oriented}
 use Rattle.narrow.proofs.rotate_in.Goals as goal
 
 pub rotate_columns-requires-clause-by_index : goal.rotate_columns-requires-clause-by_index
@@ -16,7 +16,7 @@ rotate_columns-requires-clause-by_index c =
     let a = c.args in
     λ j below.
     rw (c.orient_columns.ensures j (omega arith) below)
-    (bounded-oriented _ _ _ (bounded_at (a.gap * 32) a.column a.part.now (a.column + j) (omega arith) c.requires.part_value (omega arith)))
+    (bounded_oriented _ _ _ (bounded_at (a.gap * 32) a.column a.part.now (a.column + j) (omega arith) c.requires.part_value (omega arith)))
 
 -- each column as it is stored: the rows us and vs hold the columns oriented, and xs and ys hold them rotated
 stored_is :
