@@ -4,7 +4,7 @@ ghost use Rattle.engine.specs.Job.{job_test};
 
 // The turn number, and the turns truly made since Load.
 #[repr(C)]
-#[derive(Drop)]
+#[derive(Clone, Copy)]
 pub struct Job {
     pub turn: u32,
     pub made: u32,
