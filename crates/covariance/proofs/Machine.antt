@@ -1,12 +1,15 @@
 -- Sums and differences of signed numbers as the machine has them: what it reads back from their 64 bits. Assumes nothing.
-use mathlib.Core.Path.{◌≡◌, ◌∙◌}
+use mathlib.Core.Path.{◌≡◌, sym, ap, ◌∙◌}
+use mathlib.Core.Bool.{Bool}
 use Prim.Native.Nat.{ℕ, ◌+◌, ◌^◌, ◌<◌}
 use native.Mathlib.Omega.{arith}
 use lib.IntN.{ℤ, ◌+ℤ◌, ◌-ℤ◌, ◌*ℤ◌}
+use lib.Signed.{mag}
 use mir.Syntax.{w16, w64}
 use mir.Val.{SFits, to_z, of_z}
 use mir.Facts.{to_z-of_z}
 use Rattle.integers.specs.Within.{Within}
+use Rattle.integers.proofs.Magnitude.{read_back}
 use Rattle.integers.proofs.Within.{within-+, within--, within-*, within_fits, fits_within}
 
 -- what is read back from the 64 bits of a number
@@ -15,6 +18,10 @@ read z = to_z w64 (of_z w64 z)
 
 pub back : {z : ℤ} {n : ℕ} → Within z n → n < 2 ^ 63 → read z ≡ z
 back {z} h k = to_z-of_z (within_fits w64 z h k)
+
+-- a test of what is read back is one of the number
+pub tested : (t : ℤ → Bool) (z : ℤ) {b : Bool} → mag z < 2 ^ 63 → b ≡ t (read z) → t z ≡ b
+tested t z h e = sym (e ∙ ap t (read_back w64 h))
 
 -- a number of 16 bits, and the product of two
 pub short : {z : ℤ} → SFits w16 z → Within z (2 ^ 15)

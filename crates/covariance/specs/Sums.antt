@@ -1,5 +1,5 @@
 -- Document 02, U2: products of samples, the sums of them, and the range of sums. Assumes nothing.
-use Rattle.std.specs.Prelude.{ℕ, zero, suc, ◌+◌, ◌*◌, ◌/◌, ◌%◌, ◌^◌, Bool, List, leb, ltb, ℤ, pos, nat_abs, ◌+ℤ◌, ◌-ℤ◌, ◌*ℤ◌, get_or, replicate}
+use Rattle.std.specs.Prelude.{ℕ, zero, suc, ◌*◌, ◌/◌, ◌%◌, ◌^◌, Bool, List, leb, ltb, ℤ, pos, nat_abs, ◌+ℤ◌, ◌-ℤ◌, ◌*ℤ◌, get_or, replicate}
 use Rattle.lists.specs.Lists.{all_below}
 use Rattle.refusals.specs.Refusals.{first, fails_if, fails_unless, sums_out_of_range}
 use Rattle.covariance.specs.declared.Sample.{Sample}

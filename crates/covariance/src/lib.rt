@@ -16,7 +16,7 @@ const SNAPSHOTS: u32 = 4096;
 
 // One complex sample.
 #[repr(C)]
-#[derive(Drop)]
+#[derive(Clone, Copy)]
 pub struct Sample {
     pub re: i16,
     pub im: i16,

@@ -12,6 +12,7 @@ fn times(x: i16, y: i16) -> i64
 }
 
 // Its real part.
+#[tactic(auto, unfolding(crate::specs::Sums::product_part))]
 pub fn real(a: Sample, b: Sample) -> i64
     ensures number { result ≡ product_part a b 0 }
     ensures small { nat_abs result ≤ 2 ^ 31 }
@@ -22,6 +23,7 @@ pub fn real(a: Sample, b: Sample) -> i64
 }
 
 // Its imaginary part.
+#[tactic(auto, unfolding(crate::specs::Sums::product_part))]
 pub fn imaginary(a: Sample, b: Sample) -> i64
     ensures number { result ≡ product_part a b 1 }
     ensures small { nat_abs result ≤ 2 ^ 31 }

@@ -10,6 +10,7 @@ use crate::range::words_in_range;
 use words::int16_bytes;
 
 // A part of an element: the sum divided by 65,536 times the count, toward zero, and clamped at 32,767.
+#[tactic(auto, unfolding(crate::specs::WriteMatrix::normalized), using(crate::proofs::Normalized::quotient_near))]
 fn normalize(count: u32, sum: i64) -> i16
     requires { (0 < count) × ((count ≤ snapshot_limit) × (nat_abs sum ≤ 2 ^ 31 * count)) }
     ensures { result ≡ normalized count sum }
@@ -41,6 +42,7 @@ fn write_record(count: u32, words: &[i64; 128], buffer: &mut [u8])
 }
 
 // The number of the first test that fails, 0 for none.
+#[tactic(auto, unfolding(crate::specs::WriteMatrix::write_refusal_of, crate::specs::Sums::sums_test))]
 fn write_refusal(count: u32, words: &[i64; 128], buffer: &[u8]) -> u8
     ensures { result ≡ write_refusal_of count words.now buffer.now }
 {

@@ -41,6 +41,7 @@ fn weight_at(x: &[f64; 16], k: usize) -> Weight
 }
 
 // All eight.
+#[tactic(auto, unfolding(lists::specs::Lists::tabulate))]
 fn all_weights(x: &[f64; 16]) -> [Weight; 8]
     ensures { result ≡ weights_from (component_of x.now) }
 {
@@ -72,6 +73,7 @@ fn diagonal_nonzero(bytes: &[u8]) -> bool
 }
 
 // The number of the first test that fails, 0 for none.
+#[tactic(auto, unfolding(crate::specs::Weights::weights_refusal_of), using(refusals::proofs::Refusals::first_is))]
 fn weights_refusal(bytes: &[u8]) -> u8
     ensures { result ≡ weights_refusal_of bytes.now }
 {

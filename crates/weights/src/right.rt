@@ -14,6 +14,7 @@ struct Sum {
 }
 
 // Part j of the target: real parts, then imaginary ones.
+#[tactic(auto, unfolding(crate::specs::Solution::target_part_of), using(integers::proofs::Magnitude::read_back))]
 fn target_part(targets: [Sample; 8], j: usize) -> i16
     requires { j < 16 }
     ensures { result ≡ target_part_of targets j }

@@ -40,6 +40,7 @@ fn row_left(bytes: &[u8], x: &[f64; 16], i: usize, b: f64) -> f64
 }
 
 // Component i, from those after it.
+#[tactic(auto, unfolding(crate::specs::Solution::row_component_of))]
 fn row_component(bytes: &[u8], parts: &[i16; 16], x: &[f64; 16], i: usize) -> f64
     requires { (length bytes.now ≡ result_bytes) × (i < 16) }
     ensures { result ≡ row_component_of (record_r bytes.now) (record_q bytes.now) (part_at parts.now) (component_of x.now) i }
