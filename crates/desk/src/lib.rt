@@ -35,7 +35,7 @@ pub const OPERATOR: u32 = 2;
 // Of each sector the job, the heard byte, the share, the turns that it has left in the round, whether a matrix waits (0 is no, any other number is yes),
 // and its record: 257 bytes from 257 times the sector on.
 #[repr(C)]
-#[derive(Drop)]
+#[derive(Clone, Copy)]
 pub struct Desk {
     pub jobs: [Job; 8],
     pub heard: [u8; 8],
