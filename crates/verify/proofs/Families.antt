@@ -6,7 +6,6 @@ use Prim.Native.Nat.{ℕ, ◌+◌, ◌-◌, ◌*◌, ◌/◌, ◌%◌, ◌^◌, 
 use native.Mathlib.Decide.{dec_lt}
 use native.Mathlib.Omega.{arith}
 use lib.IntN.{ℤ, pos, ◌-ℤ◌, ◌*ℤ◌}
-use lib.ListN.{get_or}
 use Rattle.integers.specs.Sum.{sum}
 use Rattle.integers.specs.Within.{is_within}
 use Rattle.integers.proofs.Sum.{sum_equal}

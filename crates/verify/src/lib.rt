@@ -22,6 +22,7 @@ pub struct Verdict {
 }
 
 // The number of the first test that fails, 0 for none.
+#[tactic(auto, unfolding(crate::specs::Verify::verify_refusal_of), using(refusals::proofs::Refusals::first_is))]
 fn verify_refusal(matrix: &[u8], res: &[u8]) -> u8
     ensures { result ≡ verify_refusal_of matrix.now res.now }
 {
