@@ -4,8 +4,7 @@ ghost use Rattle.verify.specs.Verify.{verdict_of};
 
 use verify::Verdict;
 
-#[unsafe(no_mangle)]
-pub extern "C" fn hubqr_verify(matrix: &[u8], res: &[u8]) -> Verdict
+pub fn hubqr_verify(matrix: &[u8], res: &[u8]) -> Verdict
     ensures { result ≡ verdict_of matrix.now res.now }
 {
     verify::verify(matrix, res)

@@ -22,44 +22,38 @@ use engine::read::ReadReply;
 use engine::run::RunReply;
 use engine::whole::WholeReply;
 
-#[unsafe(no_mangle)]
-pub extern "C" fn hubqr_load(bytes: &[u8], area: &mut [i32]) -> LoadReply
+pub fn hubqr_load(bytes: &[u8], area: &mut [i32]) -> LoadReply
     ensures { record { reply = result; workspace = area.new } ≡ load_of bytes.now area.old }
 {
     engine::load::load(bytes, area)
 }
 
-#[unsafe(no_mangle)]
-pub extern "C" fn hubqr_run(job: Job, allowance: u16, area: &mut [i32]) -> RunReply
+pub fn hubqr_run(job: Job, allowance: u16, area: &mut [i32]) -> RunReply
     ensures { record { reply = result; workspace = area.new } ≡ run_of job allowance area.old }
 {
     engine::run::run(job, allowance, area)
 }
 
-#[unsafe(no_mangle)]
-pub extern "C" fn hubqr_fetch(job: Job, area: &[i32], buffer: &mut [u8]) -> u8
+pub fn hubqr_fetch(job: Job, area: &[i32], buffer: &mut [u8]) -> u8
     ensures { record { number = result; buffer = buffer.new } ≡ fetch_of job area.now buffer.old }
 {
     engine::fetch::fetch(job, area, buffer)
 }
 
-#[unsafe(no_mangle)]
-pub extern "C" fn hubqr_read(bytes: &[u8], area: &mut [i32]) -> ReadReply
+pub fn hubqr_read(bytes: &[u8], area: &mut [i32]) -> ReadReply
     ensures { record { reply = result; workspace = area.new } ≡ read_of bytes.now area.old }
 {
     engine::read::read(bytes, area)
 }
 
-#[unsafe(no_mangle)]
-pub extern "C" fn hubqr_whole(bytes: &[u8], area: &mut [i32], buffer: &mut [u8]) -> WholeReply
+pub fn hubqr_whole(bytes: &[u8], area: &mut [i32], buffer: &mut [u8]) -> WholeReply
     ensures { record { reply = result; workspace = area.new; buffer = buffer.new } ≡ whole_of bytes.now area.old buffer.old }
 {
     engine::whole::whole(bytes, area, buffer)
 }
 
 // The version of this archive, 10,000 times the major, 100 times the minor and the patch number.
-#[unsafe(no_mangle)]
-pub extern "C" fn hubqr_version() -> u32
+pub fn hubqr_version() -> u32
     ensures { result ≡ 1300 }
 {
     1300

@@ -8,28 +8,19 @@ ghost use Rattle.journal.specs.Next.{log_next_of};
 use journal::LogReply;
 use journal::next::LogEntry;
 
-#[unsafe(no_mangle)]
-pub extern "C" fn hubqr_log_add(
-    kind: u32,
-    day: u32,
-    body: &[u8],
-    used: usize,
-    buffer: &mut [u8],
-) -> LogReply
+pub fn hubqr_log_add(kind: u32, day: u32, body: &[u8], used: usize, buffer: &mut [u8]) -> LogReply
     ensures { record { reply = result; buffer = buffer.new } ≡ log_add_of kind day body.now used buffer.old }
 {
     journal::add::add(kind, day, body, used, buffer)
 }
 
-#[unsafe(no_mangle)]
-pub extern "C" fn hubqr_log_sweep(day: u32, used: usize, buffer: &mut [u8]) -> LogReply
+pub fn hubqr_log_sweep(day: u32, used: usize, buffer: &mut [u8]) -> LogReply
     ensures { record { reply = result; buffer = buffer.new } ≡ log_sweep_of day used buffer.old }
 {
     journal::sweep::sweep(day, used, buffer)
 }
 
-#[unsafe(no_mangle)]
-pub extern "C" fn hubqr_log_next(at: usize, used: usize, buffer: &[u8]) -> LogEntry
+pub fn hubqr_log_next(at: usize, used: usize, buffer: &[u8]) -> LogEntry
     ensures { result ≡ log_next_of at used buffer.now }
 {
     journal::next::next(at, used, buffer)

@@ -5,8 +5,7 @@ ghost use Rattle.weights.specs.Weights.{weights_of};
 use crate::snapshots::Snapshot;
 use weights::WeightsReply;
 
-#[unsafe(no_mangle)]
-pub extern "C" fn hubqr_weights(bytes: &[u8], targets: Snapshot) -> WeightsReply
+pub fn hubqr_weights(bytes: &[u8], targets: Snapshot) -> WeightsReply
     ensures { result ≡ weights_of bytes.now targets.samples }
 {
     let samples = targets.samples;

@@ -14,22 +14,19 @@ use desk::run::DeskRunReply;
 use desk::shares::Shares;
 use desk::{Desk, DeskReply};
 
-#[unsafe(no_mangle)]
-pub extern "C" fn hubqr_desk_new() -> Desk
+pub fn hubqr_desk_new() -> Desk
     ensures { result ≡ new_desk }
 {
     desk::new()
 }
 
-#[unsafe(no_mangle)]
-pub extern "C" fn hubqr_desk_begin(role: u32, desk: Desk) -> DeskReply
+pub fn hubqr_desk_begin(role: u32, desk: Desk) -> DeskReply
     ensures { result ≡ begin_of role desk }
 {
     desk::rounds::begin(role, desk)
 }
 
-#[unsafe(no_mangle)]
-pub extern "C" fn hubqr_desk_hand_in(
+pub fn hubqr_desk_hand_in(
     role: u32,
     desk: Desk,
     sector: u32,
@@ -41,8 +38,7 @@ pub extern "C" fn hubqr_desk_hand_in(
     desk::hand_in::hand_in(role, desk, sector, bytes, area)
 }
 
-#[unsafe(no_mangle)]
-pub extern "C" fn hubqr_desk_run(
+pub fn hubqr_desk_run(
     role: u32,
     desk: Desk,
     sector: u32,
@@ -54,8 +50,7 @@ pub extern "C" fn hubqr_desk_run(
     desk::run::run(role, desk, sector, request, area)
 }
 
-#[unsafe(no_mangle)]
-pub extern "C" fn hubqr_desk_fetch(
+pub fn hubqr_desk_fetch(
     role: u32,
     desk: Desk,
     sector: u32,
@@ -67,15 +62,13 @@ pub extern "C" fn hubqr_desk_fetch(
     desk::fetch::fetch(role, desk, sector, area, buffer)
 }
 
-#[unsafe(no_mangle)]
-pub extern "C" fn hubqr_desk_heard(role: u32, desk: Desk, sector: u32) -> DeskHeardReply
+pub fn hubqr_desk_heard(role: u32, desk: Desk, sector: u32) -> DeskHeardReply
     ensures { result ≡ desk_heard_of role desk sector }
 {
     desk::heard::heard(role, desk, sector)
 }
 
-#[unsafe(no_mangle)]
-pub extern "C" fn hubqr_desk_set_shares(role: u32, desk: Desk, shares: Shares) -> DeskReply
+pub fn hubqr_desk_set_shares(role: u32, desk: Desk, shares: Shares) -> DeskReply
     ensures { result ≡ set_shares_of role desk shares.shares }
 {
     desk::shares::set_shares(role, desk, shares)

@@ -14,23 +14,20 @@ pub struct Snapshot {
     pub samples: [Sample; 8],
 }
 
-#[unsafe(no_mangle)]
-pub extern "C" fn hubqr_sums_none() -> Sums
+pub fn hubqr_sums_none() -> Sums
     ensures { result ≡ sums_none_of }
 {
     covariance::sums_none()
 }
 
-#[unsafe(no_mangle)]
-pub extern "C" fn hubqr_add_snapshot(snapshot: Snapshot, sums: Sums) -> AddReply
+pub fn hubqr_add_snapshot(snapshot: Snapshot, sums: Sums) -> AddReply
     ensures { result ≡ add_of snapshot.samples sums }
 {
     let samples = snapshot.samples;
     covariance::add::add_snapshot(samples, sums)
 }
 
-#[unsafe(no_mangle)]
-pub extern "C" fn hubqr_write_matrix(sums: Sums, buffer: &mut [u8]) -> u8
+pub fn hubqr_write_matrix(sums: Sums, buffer: &mut [u8]) -> u8
     ensures { record { number = result; buffer = buffer.new } ≡ write_of sums buffer.old }
 {
     covariance::write::write_matrix(sums, buffer)
