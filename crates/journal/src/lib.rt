@@ -11,7 +11,7 @@ pub mod sweep;
 
 // The refusal's number, and the count of used bytes after the call. A refusal answers 0 for it, and the count that the caller has goes on holding.
 #[repr(C)]
-#[derive(Drop)]
+#[derive(Clone, Copy)]
 pub struct LogReply {
     pub number: u8,
     pub used: usize,
