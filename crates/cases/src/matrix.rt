@@ -1,7 +1,7 @@
 // The matrix records of the cases.
 ghost use Rattle.std.specs.Prelude.{◌≡◌, ◌<◌, length};
 
-#[derive(Drop)]
+#[derive(Clone, Copy)]
 pub enum Matrix {
     // Parts of all sizes.
     Full,

@@ -1,29 +1,30 @@
 // Text and numbers on standard output.
-use libc::STDOUT_FILENO;
+use std::io;
 
-pub fn text(text: &[u8]) {
-    io::write_all(STDOUT_FILENO, text);
+pub fn text(rt: &impl Print, text: &[u8]) -> io::Result<()> {
+    rt.write_all(text)
 }
 
 // Writes a line with the numbers in the places of its % signs.
-pub fn line(line: &[u8], numbers: &[u64]) {
+pub fn line(rt: &impl Print, line: &[u8], numbers: &[u64]) -> io::Result<()> {
     let mut used = 0;
     let mut i = 0;
     while i < line.len() {
-        used = put(line[i], numbers, used);
+        used = put(rt, line[i], numbers, used)?;
         i += 1;
     }
+    Ok(())
 }
 
 // Writes a byte of a line, or the next number in the place of a % sign. Answers how many numbers are used.
-fn put(byte: u8, numbers: &[u64], used: usize) -> usize {
+fn put(rt: &impl Print, byte: u8, numbers: &[u64], used: usize) -> io::Result<usize> {
     if byte == b'%' {
         if used < numbers.len() {
-            io::print_decimal(STDOUT_FILENO, numbers[used]);
-            return used + 1;
+            rt.print(numbers[used])?;
+            return Ok(used + 1);
         }
     }
     let bytes = [byte];
-    io::write_all(STDOUT_FILENO, &bytes);
-    used
+    rt.write_all(&bytes)?;
+    Ok(used)
 }

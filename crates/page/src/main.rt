@@ -3,14 +3,30 @@
 
 #![tactic(auto)]
 
-use libc::{STDERR_FILENO, STDIN_FILENO, STDOUT_FILENO};
+ghost use Rattle.std.specs.Prelude.{◌≤◌, length};
 
-fn main() {
+use std::io::{Read, Stdin};
+
+fn main(rt: HostRuntime) {
     let mut input = [0u8; 2050];
-    let count = io::read_full(STDIN_FILENO, &mut input);
+    let count = read_full(rt.stdin(), &mut input);
     let mut output = [0u8; page_text::PAGE];
     let size = page_text::page_text(&input[..count], &mut output);
-    if !io::write_all(STDOUT_FILENO, &output[..size]) {
-        io::write_all(STDERR_FILENO, b"page: the page could not be written\n");
+    if rt.write_all(&output[..size]).is_err() {
+        let _ = rt.eprintln("page: the page could not be written");
     }
+}
+
+// Reads until the buffer is full, the input ends or a read fails, and answers how many bytes now stand at the start of the buffer.
+fn read_full(mut input: Stdin, buffer: &mut [u8]) -> usize
+    ensures { result ≤ length buffer.new }
+{
+    let mut done = 0;
+    while done < buffer.len() {
+        match input.read(&mut buffer[done..]) {
+            Ok(count) if 0 < count => done += count,
+            _ => return done,
+        }
+    }
+    done
 }
