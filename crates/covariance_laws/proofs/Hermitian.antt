@@ -27,7 +27,7 @@ use Rattle.covariance.proofs.Machine.{short_product}
 use Rattle.covariance_laws.specs.Snapshots.{sample_at, Parts16, term_at, sums_after}
 use Rattle.covariance_laws.specs.Accumulated.{added_of}
 use Rattle.covariance_laws.specs.WrittenMatrix.{record_written}
-use Rattle.covariance_laws.specs.Hermitian.{Hermitian, AllHermitian}
+use Rattle.covariance_laws.specs.Hermitian.{AllHermitian}
 use Rattle.covariance_laws.specs.HeardByPower.{power_of}
 use Rattle.covariance_laws.proofs.Accumulated.{accumulated}
 use Rattle.covariance_laws.proofs.Terms.{Sample16}

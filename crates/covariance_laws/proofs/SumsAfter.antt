@@ -12,7 +12,6 @@ use Rattle.integers.proofs.Sum.{sum_first}
 use Rattle.integers.proofs.Within.{within, within-+}
 use Rattle.lists.specs.Histories.{after_all}
 use Rattle.lists.proofs.Tabulate.{get_d_tabulate}
-use Rattle.refusals.specs.Refusals.{first}
 use Rattle.covariance.specs.declared.Sample.{Sample}
 use Rattle.covariance.specs.declared.Sums.{Sums}
 use Rattle.covariance.specs.declared.add.AddReply.{AddReply}

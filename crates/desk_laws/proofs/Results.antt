@@ -20,7 +20,7 @@ use Rattle.engine.specs.Fetch.{fetch_by}
 use Rattle.engine.proofs.Accepted.{fetch_accepted, fetch_passes}
 use Rattle.engine.proofs.Taken.{none_taken}
 use Rattle.accuracy.specs.Demand3.{Load}
-use Rattle.desk_laws.specs.Calls.{Lent, its, Call, fetch, Hub, new, lent_words, left_in, loads, Answer, answer, next, after, Accepted, NoLoad, EachNoLoad, OwnLent, EachLentIts}
+use Rattle.desk_laws.specs.Calls.{Lent, its, Call, fetch, Hub, new, lent_words, left_in, Answer, answer, next, after, Accepted, NoLoad, EachNoLoad, OwnLent, EachLentIts}
 use Rattle.desk_laws.specs.Ledger.{matrix, Ledger, fresh, noted, ledger_after, ledger, EachIts}
 use Rattle.desk_laws.specs.Sectors.{LoadedBy, SectorKept}
 use Rattle.desk_laws.specs.Results.{InStep, Fetched, ResultsAccurate, FetchRepeats}

@@ -20,7 +20,7 @@ use Rattle.engine.proofs.Taken.{none_taken}
 use Rattle.desk.proofs.Accepted.{finished-passes}
 use Rattle.desk.specs.Desk.{unloaded_job}
 use Rattle.desk.specs.Roles.{may_operate_of, may_fetch_of, role_test}
-use Rattle.desk_laws.specs.Calls.{Lent, Call, run, fetch, heard, new, lent_words, bare, answer, next, after, own, kind, NoLoad, EachNoLoad}
+use Rattle.desk_laws.specs.Calls.{Lent, Call, run, fetch, new, lent_words, bare, answer, next, after, own, kind, NoLoad, EachNoLoad}
 use Rattle.desk_laws.specs.Unloaded.{ran_nothing, NeverLoaded}
 use Rattle.desk_laws.specs.Sectors.{ran_answer}
 use Rattle.desk_laws.proofs.Seats.{Seat, seat, seat_must_wait, run_seat, run_number, fetch_number, seat_grant, no_grant, run_answer, fetch_answer, own_answer, own_kind, own_answer_lem, eight_after, eight_new}

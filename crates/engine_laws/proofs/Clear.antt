@@ -19,7 +19,6 @@ use Rattle.workspace.specs.Workspace.{R, Q}
 use Rattle.workspace.specs.Loading.{loaded_at, loaded_word_of, loaded_words}
 use Rattle.workspace.proofs.Filled.{loaded_at_lem}
 use Rattle.workspace.proofs.Finished.{words_stay, uncounted, unmade}
-use Rattle.engine.specs.declared.job.Job.{Job}
 use Rattle.engine.specs.Job.{loaded_job}
 use Rattle.engine.specs.Load.{LoadOutcome, load_refusal_of, load_by, load_of}
 use Rattle.engine.specs.Run.{RunOutcome, next_job, run_done, run_by, run_of}

@@ -23,7 +23,7 @@ use Rattle.journal.specs.Sweep.{log_sweep_by}
 use Rattle.journal.proofs.EntryBytes.{entry_length}
 use Rattle.journal.proofs.Calls.{add-accepted}
 use Rattle.journal_laws.specs.Calls.{Call, add, sweep, fill, Log, empty_log, outcome, number, next, after}
-use Rattle.journal_laws.specs.Logged.{entry_of, survives, logged_by, logged, Logged, AllLogged, NothingLost, NoneTooOld}
+use Rattle.journal_laws.specs.Logged.{entry_of, survives, logged_by, logged, AllLogged, NothingLost, NoneTooOld}
 use Rattle.journal_laws.proofs.Places.{place-first, place_later, place_none, place-cases, place_right, place_either}
 use Rattle.journal_laws.proofs.Format.{AllSound, sound_append, written_append, entries-written}
 use Rattle.journal_laws.proofs.Keeping.{kept-before, before-kept, keep_sound, kept_shorter}

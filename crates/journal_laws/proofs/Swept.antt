@@ -2,7 +2,7 @@
 use mathlib.Core.Path.{◌≡◌, ap, ◌∙◌}
 use mathlib.Core.List.{List, ◌++◌}
 use mathlib.Core.Option.{some}
-use Prim.Native.Nat.{ℕ, ◌+◌}
+use Prim.Native.Nat.{ℕ}
 use native.Mathlib.Omega.{arith}
 use lib.ListN.{length, drop, length-append, length-drop}
 use lib.Seq.{drop-append_seam}
@@ -11,7 +11,7 @@ use Rattle.journal.specs.Held.{held}
 use Rattle.journal.specs.Retention.{keep}
 use Rattle.journal.specs.Sweep.{log_sweep_by, log_sweep_of}
 use Rattle.journal.proofs.Sweeping.{held-parts}
-use Rattle.journal_laws.specs.Swept.{Swept, AllSwept, SweptRemains}
+use Rattle.journal_laws.specs.Swept.{AllSwept, SweptRemains}
 use Rattle.journal_laws.proofs.Format.{held_front, held_sound, held-used}
 use Rattle.journal_laws.proofs.Keeping.{before-kept, kept-before, keep_append, kept_was, was_kept, keep_twice, keep_sound, kept_shorter}
 

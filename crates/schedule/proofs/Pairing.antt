@@ -1,13 +1,12 @@
 -- A stage pairs the rows that stand in order: by place, and how many; and no column and no row passes 15. Assumes nothing.
-use mathlib.Core.Path.{◌≡◌, refl, ap, ◌∙◌}
-use mathlib.Core.List.{List, [], ◌∷◌}
-use Prim.Native.Nat.{ℕ, zero, suc, ◌+◌, ◌*◌, ◌/◌, ◌<◌, ◌≤◌}
+use mathlib.Core.Path.{◌≡◌, refl}
+use mathlib.Core.List.{[], ◌∷◌}
+use Prim.Native.Nat.{ℕ, zero, suc, ◌+◌, ◌*◌, ◌<◌, ◌≤◌}
 use native.Mathlib.Nat.{le_of_suc-le-suc, not-suc-le-zero}
 use native.Mathlib.Omega.{arith}
 use lib.Dec.{T}
-use lib.ListN.{length, get_or}
-use Rattle.schedule.specs.declared.Rotation.{Rotation}
-use Rattle.schedule.specs.Schedule.{stage_rotations, survivors, stages, up_from, column_stages, stages_rotations, columns_rotations, schedule, no_rotation, flat}
+use lib.ListN.{get_or}
+use Rattle.schedule.specs.Schedule.{stage_rotations, survivors, stages, up_from, column_stages, stages_rotations, columns_rotations, schedule, flat}
 use Rattle.schedule.specs.Pairing.{StagePairs, StageCount, StageStands, StandingCount, AtMost15}
 use Rattle.integers.proofs.Claim.{Claim, less, test, sound, each, each_at}
 

@@ -1,10 +1,10 @@
 -- Two records that get yes, in which the square of a column's length is off by 2^46. Column 7 of the complex matrix has 32,767 in every row, and all else is 0, so
 -- that columns 7 and 15 of the real one have eight words each. R has two steps more in each of them, and Q is the identity: each sum for Q times R that is not
 -- right is off by 2^44, which is the limit. Assumes nothing.
-use mathlib.Core.Path.{◌≡◌, refl, ap, ap₂, ◌∙◌, subst}
+use mathlib.Core.Path.{◌≡◌, refl, ap, subst}
 use mathlib.Core.Bool.{Bool, true, false, ◌&&◌, cond}
 use mathlib.Core.List.{List}
-use Prim.Native.Nat.{ℕ, ◌/◌, ◌%◌, ◌^◌, ◌≤◌, ◌<◌}
+use Prim.Native.Nat.{ℕ, ◌/◌, ◌%◌, ◌^◌, ◌<◌}
 use native.Mathlib.Omega.{arith}
 use lib.Dec.{eqb, lit<}
 use lib.IntN.{ℤ, pos, nat_abs, ◌-ℤ◌, ◌*ℤ◌}
@@ -21,7 +21,7 @@ use Rattle.matrix_record.specs.MatrixRecord.{part_of, matrix_byte, matrix_record
 use Rattle.result_record.specs.ResultRecord.{result_word, result_byte, result_record_of, record_r, is_finished_at, is_finished}
 use Rattle.accuracy.specs.Factorization.{gram, error_limit}
 use Rattle.verify.specs.Verify.{is_product, is_orthogonal}
-use Rattle.verify_laws.specs.Answers.{Columns, Factors}
+use Rattle.verify_laws.specs.Answers.{Columns}
 use Rattle.verify_laws.specs.Columns.{YesWithoutColumns}
 use Rattle.verify_laws.proofs.Answers.{factors_if}
 use Rattle.verify_laws.proofs.Written.{same_r, written_yes}

@@ -1,17 +1,16 @@
 -- The words of a matrix that is worked to the end fit 32 bits, so that its result record has them. Assumes nothing.
-use mathlib.Core.Path.{◌≡◌, refl, sym, ap, ◌∙◌}
-use mathlib.Core.Bool.{Bool, true, cond}
+use mathlib.Core.Path.{refl, sym, ap, ◌∙◌}
 use Prim.Native.Nat.{ℕ, ◌+◌, ◌-◌, ◌*◌, ◌^◌, ◌≤◌, ◌<◌}
 use native.Mathlib.Nat.{le_trans, le_of_eq, mul-le-mul}
 use native.Mathlib.Decide.{dec_lt}
 use native.Mathlib.Omega.{arith}
 use borrow.Author.Tests.{eq-eqb}
-use lib.Dec.{eqb, lit<}
-use lib.IntN.{ℤ, pos, nat_abs, ◌-ℤ◌, ◌*ℤ◌}
+use lib.Dec.{lit<}
+use lib.IntN.{ℤ, pos, nat_abs, ◌*ℤ◌}
 use mir.Syntax.{w32}
 use mir.Val.{SFits}
 use Rattle.integers.specs.Matrix.{Matrix}
-use Rattle.integers.specs.Sum.{sum, total}
+use Rattle.integers.specs.Sum.{sum}
 use Rattle.integers.specs.Square.{square}
 use Rattle.integers.proofs.Laws.{square_is, abs-*}
 use Rattle.integers.proofs.Within.{within, within_abs, within_fits}

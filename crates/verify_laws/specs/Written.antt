@@ -1,6 +1,6 @@
 -- Document 02, U13: "What our engine writes for a matrix, under the mission's premises, gets yes with that matrix." Each accepted Fetch in step of a list of
 -- calls, an accepted Whole, and each result fetched at the desk, under U11's premises; and lists of calls that meet these. Assumes nothing.
-use Rattle.std.specs.Prelude.{◌≡◌, List, ◌∷◌, ℕ, ◌+◌, ◌*◌, ◌≤◌, ◌<◌, ℤ, length, take}
+use Rattle.std.specs.Prelude.{◌≡◌, List, ℕ, ◌+◌, ◌*◌, ◌≤◌, ◌<◌, ℤ, length, take}
 use Rattle.lists.specs.Lists.{sum_of}
 use Rattle.lists.specs.Histories.{Place}
 use Rattle.words.specs.Words.{Bytes}

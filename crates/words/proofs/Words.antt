@@ -1,7 +1,7 @@
 -- A word and its four bytes, signed and unsigned, and a 16-bit number and its two: reading what was written gives the number, and writing what was read
 -- gives the bytes. Assumes nothing.
 use mathlib.Core.Path.{◌≡◌, refl, ap, ◌∙◌}
-use Prim.Native.Nat.{ℕ, zero, suc, ◌+◌, ◌*◌, ◌-◌, ◌/◌, ◌%◌, ◌<◌}
+use Prim.Native.Nat.{ℕ, zero, suc, ◌+◌, ◌*◌, ◌/◌, ◌%◌, ◌<◌}
 use mathlib.Core.List.{[], ◌∷◌}
 use native.Mathlib.Nat.{div-one, div-add-mod', div-div-eq-div-mul, mod-eq_of_lt}
 use native.Mathlib.Omega.{arith}

@@ -3,7 +3,6 @@ use mathlib.Core.Path.{◌≡◌}
 use mathlib.Core.List.{List}
 use Prim.Native.Nat.{ℕ}
 use lib.IntN.{ℤ}
-use borrow.Author.Rules.{rules}
 use Rattle.engine.specs.declared.whole.WholeReply.{WholeReply}
 use Rattle.engine.specs.Whole.{whole_of}
 use Rattle.verify.specs.declared.Verdict.{Verdict}

@@ -3,7 +3,6 @@ use mathlib.Core.Path.{◌≡◌}
 use mathlib.Core.List.{List}
 use Prim.Native.Nat.{ℕ}
 use lib.IntN.{ℤ}
-use borrow.Author.Rules.{rules}
 use Rattle.engine.specs.declared.read.ReadReply.{ReadReply}
 use Rattle.engine.specs.Read.{read_of}
 use Rattle.engine.specs.Fetch.{fetch_of}

@@ -2,7 +2,6 @@
 use mathlib.Core.Path.{◌≡◌}
 use mathlib.Core.List.{List}
 use Prim.Native.Nat.{ℕ}
-use borrow.Author.Rules.{rules}
 use Rattle.covariance.specs.declared.Sample.{Sample}
 use Rattle.covariance.specs.declared.Sums.{Sums}
 use Rattle.covariance.specs.declared.add.AddReply.{AddReply}

@@ -2,7 +2,6 @@
 use mathlib.Core.Path.{◌≡◌}
 use mathlib.Core.List.{List}
 use Prim.Native.Nat.{ℕ}
-use borrow.Author.Rules.{rules}
 use Rattle.journal.specs.declared.LogReply.{LogReply}
 use Rattle.journal.specs.declared.next.LogEntry.{LogEntry}
 use Rattle.journal.specs.Outcome.{used_after_of}

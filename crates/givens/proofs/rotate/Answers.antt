@@ -1,5 +1,5 @@
 -- A clear turn is skipped; where the test holds the 32-bit form does the work and nothing is counted, and else the 64-bit form. Assumes nothing.
-use Rattle.std.proofs.Common.{◌∙◌, sym, refl, rules, arith}
+use Rattle.std.proofs.Common.{◌∙◌, sym}
 use Rattle.narrow.proofs.Norms.{bounded_none}
 use Rattle.rotation.proofs.Turn.{turn_skipped, turn_rotated}
 use Rattle.givens.proofs.rotate.Goals as goal

@@ -1,5 +1,5 @@
 -- Column k has made the step: it was as at the start before. Assumes nothing.
-use Rattle.std.proofs.Common.{◌≡◌, ℕ, ◌≤◌, ◌∙◌, ap, rules, arith, to_z, of_z, w64}
+use Rattle.std.proofs.Common.{◌≡◌, ◌≤◌, ◌∙◌, ap, rules, arith, to_z, of_z, w64}
 use native.Mathlib.Nat.{le_refl}
 use lib.IntN.{pos}
 use lib.ListN.{get_or}

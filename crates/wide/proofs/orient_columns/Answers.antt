@@ -1,5 +1,5 @@
 -- Column k is oriented. Assumes nothing.
-use Rattle.std.proofs.Common.{ℕ, rules, arith, ◌+◌, w32}
+use Rattle.std.proofs.Common.{rules, arith, ◌+◌, w32}
 use borrow.Author.Count.{below_more}
 use lib.IntN.{pos}
 use lib.ListN.{get_or}

@@ -1,5 +1,5 @@
 -- Column first + n is stored. Assumes nothing.
-use Rattle.std.proofs.Common.{◌≡◌, ℕ, ◌+◌, ap₂, refl, rules, arith, add-one, w32, w64}
+use Rattle.std.proofs.Common.{ℕ, ◌+◌, ap₂, refl, rules, arith, add-one, w32, w64}
 use lib.IntN.{pos}
 use lib.ListN.{get_or}
 use mir.Val.{SFits, bool_byte}

@@ -4,7 +4,6 @@ use mathlib.Core.Bool.{Bool}
 use mathlib.Core.List.{List}
 use Prim.Native.Nat.{ℕ, zero, suc, ◌<◌}
 use lib.IntN.{ℤ}
-use borrow.Author.Rules.{rules}
 use Rattle.refusals.proofs.Refusals.{first-none}
 use Rattle.engine.specs.Load.{load_refusal_of}
 use Rattle.engine.proofs.Accepted.{load-accepted}

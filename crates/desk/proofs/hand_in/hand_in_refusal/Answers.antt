@@ -1,6 +1,5 @@
 -- `hand_in_refusal` meets its contract: the call is not admitted, or the engine's tests for Load decide. Assumes nothing.
 use mathlib.Core.Path.{sym, ◌∙◌}
-use borrow.Author.Rules.{rules}
 use Rattle.refusals.proofs.Refusals.{first_is}
 use Rattle.desk.specs.HandIn.{hand_in_refusal_of}
 use Rattle.desk.proofs.hand_in.hand_in_refusal.Goals as goal

@@ -1,5 +1,4 @@
 -- `must_wait` meets its contract: one waits, or the job decides. Assumes nothing.
-use borrow.Author.Rules.{rules}
 use Rattle.desk.specs.HandIn.{must_wait_of}
 use Rattle.desk.proofs.hand_in.must_wait.Goals as goal
 

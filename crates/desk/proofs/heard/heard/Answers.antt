@@ -1,7 +1,6 @@
 -- `heard` meets its contract: number 0 says that the role may and that there is such a sector. Assumes nothing.
 use mathlib.Core.Path.{◌≡◌, refl, sym, ◌∙◌}
-use Prim.Native.Nat.{ℕ, zero, suc, ◌<◌}
-use borrow.Author.Rules.{rules}
+use Prim.Native.Nat.{ℕ, zero, suc}
 use Rattle.desk.specs.declared.Desk.{Desk}
 use Rattle.desk.specs.Roles.{may_hear_of, admission_test}
 use Rattle.desk.specs.Heard.{desk_heard_by, desk_heard_of}

@@ -1,7 +1,6 @@
 -- `begin` meets its contract: by the number of its test. Assumes nothing.
 use mathlib.Core.Path.{◌≡◌, refl, sym, ◌∙◌}
 use Prim.Native.Nat.{ℕ, zero, suc}
-use borrow.Author.Rules.{rules}
 use Rattle.desk.specs.declared.Desk.{Desk}
 use Rattle.desk.specs.Rounds.{begin_by, begin_of}
 use Rattle.desk.proofs.rounds.begin.Goals as goal

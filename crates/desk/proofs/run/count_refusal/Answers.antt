@@ -1,6 +1,5 @@
 -- `count_refusal` meets its contract: each part of the test in turn. Assumes nothing.
 use borrow.Author.Tests.{lt-ltb, le-ltb, eq-eqb, ne_eqb}
-use borrow.Author.Rules.{rules}
 use native.Mathlib.Omega.{arith}
 use Rattle.desk.specs.Run.{count_test}
 use Rattle.desk.proofs.run.count_refusal.Goals as goal

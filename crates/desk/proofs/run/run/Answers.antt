@@ -1,10 +1,9 @@
 -- `run` meets its contract: past the tests, the engine's Run is accepted, and the sector's count can pay what it takes. Assumes nothing.
 use mathlib.Core.Path.{◌≡◌, refl, sym, ap, ◌∙◌}
 use mathlib.Core.List.{List}
-use Prim.Native.Nat.{ℕ, zero, suc, ◌-◌, ◌≤◌, ◌<◌, min}
+use Prim.Native.Nat.{ℕ, zero, suc, ◌-◌, ◌<◌, min}
 use native.Mathlib.Omega.{arith}
 use lib.IntN.{ℤ}
-use borrow.Author.Rules.{rules}
 use Rattle.refusals.proofs.Refusals.{first-none}
 use Rattle.engine.specs.declared.job.Job.{Job}
 use Rattle.engine.specs.declared.run.RunReply.{RunReply}

@@ -1,7 +1,5 @@
 -- `run_refusal` meets its contract: the tests passed so far, and the one that decides. Assumes nothing.
 use mathlib.Core.Path.{◌≡◌, sym, ◌∙◌}
-use Prim.Native.Nat.{◌<◌}
-use borrow.Author.Rules.{rules}
 use Rattle.refusals.proofs.Refusals.{first_is}
 use Rattle.desk.specs.Roles.{may_operate_of, admission_test}
 use Rattle.desk.specs.Run.{desk_run_refusal}

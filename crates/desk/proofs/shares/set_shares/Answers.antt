@@ -2,7 +2,6 @@
 use mathlib.Core.Path.{◌≡◌, refl, sym, ◌∙◌}
 use mathlib.Core.List.{List}
 use Prim.Native.Nat.{ℕ, zero, suc}
-use borrow.Author.Rules.{rules}
 use Rattle.desk.specs.declared.Desk.{Desk}
 use Rattle.desk.specs.Shares.{set_shares_by, set_shares_of}
 use Rattle.desk.proofs.shares.set_shares.Goals as goal

@@ -1,6 +1,5 @@
 -- `set_shares_refusal` meets its contract: the role may not, or the shares decide. Assumes nothing.
 use mathlib.Core.Path.{sym, ◌∙◌}
-use borrow.Author.Rules.{rules}
 use Rattle.refusals.proofs.Refusals.{first_is}
 use Rattle.desk.specs.Shares.{set_shares_refusal_of}
 use Rattle.desk.proofs.shares.set_shares_refusal.Goals as goal

@@ -1,11 +1,10 @@
 -- `total` meets its contract: the sum is that of the shares passed, and eight shares of 16 bits cannot wrap it. Assumes nothing.
 use mathlib.Core.Path.{◌≡◌, refl, sym, ap, ap₂, ◌∙◌}
 use mathlib.Core.List.{List}
-use Prim.Native.Nat.{ℕ, ◌+◌, ◌-◌, ◌*◌, ◌≤◌}
+use Prim.Native.Nat.{ℕ, ◌+◌}
 use native.Mathlib.Omega.{arith}
 use native.Mathlib.Numerals.{add-one}
 use lib.ListN.{get_or}
-use borrow.Author.Rules.{rules}
 use Rattle.integers.specs.Sum.{total}
 use Rattle.desk.proofs.shares.total.Invariants.{total_below}
 use Rattle.desk.proofs.shares.total.Goals as goal

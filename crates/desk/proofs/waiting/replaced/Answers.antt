@@ -1,13 +1,11 @@
 -- `replaced` meets its contract: the bytes passed are pasted. Assumes nothing.
 use mathlib.Core.Path.{◌≡◌, ap, ◌∙◌}
 use mathlib.Core.List.{List}
-use Prim.Native.Nat.{ℕ, ◌+◌, ◌-◌, ◌*◌, ◌≤◌}
+use Prim.Native.Nat.{ℕ, ◌+◌, ◌*◌}
 use native.Mathlib.Omega.{arith}
 use native.Mathlib.Numerals.{add-one}
 use lib.ListN.{length, get_or, set}
 use lib.Seq.{paste, paste-zero, paste-suc}
-use mir.Syntax.{w8}
-use borrow.Kind.Array.{e_int, good_length}
 use borrow.Author.Rules.{rules}
 use Rattle.desk.proofs.waiting.replaced.Goals as goal
 

@@ -3,7 +3,6 @@ use mathlib.Core.Path.{◌≡◌}
 use Prim.Native.Nat.{◌+◌, ◌-◌, ◌*◌}
 use native.Mathlib.Omega.{arith}
 use Rattle.desk.specs.Desk.{record_in}
-use borrow.Author.Rules.{rules}
 use Rattle.desk.proofs.waiting.take_waiting.Goals as goal
 
 pub returns-clause-filled : goal.returns-clause-filled

@@ -3,9 +3,8 @@ use mathlib.Core.Path.{◌≡◌, refl, sym, ◌∙◌}
 use mathlib.Core.List.{List}
 use Prim.Native.Nat.{ℕ, zero, suc}
 use lib.IntN.{ℤ}
-use Rattle.engine.specs.Fetch.{fetch_refusal_of, fetch_by, fetch_of}
+use Rattle.engine.specs.Fetch.{fetch_by, fetch_of}
 use Rattle.engine.proofs.Accepted.{fetch_accepted}
-use borrow.Author.Rules.{rules}
 use Rattle.engine.proofs.fetch.fetch.Goals as goal
 
 refused : (n : ℕ) (l : List ℤ) (buffer : List ℕ) → (n ≡ 0 → ⊥) → record { number = n; buffer = buffer } ≡ fetch_by n l buffer

@@ -1,7 +1,6 @@
 -- `fetch_refusal` meets its contract: the tests passed so far, and the one that decides. Assumes nothing.
 use mathlib.Core.Path.{sym, ◌∙◌}
-use borrow.Author.Tests.{lt-ltb, le-ltb, not-true, not-false}
-use borrow.Author.Rules.{rules}
+use borrow.Author.Tests.{lt-ltb, le-ltb}
 use Rattle.refusals.proofs.Refusals.{first_is}
 use Rattle.engine.specs.Fetch.{fetch_refusal_of}
 use Rattle.engine.proofs.fetch.fetch_refusal.Goals as goal

@@ -1,6 +1,5 @@
 -- `job_refusal` meets its contract: the tests passed so far, and the one that decides. Assumes nothing.
 use borrow.Author.Tests.{lt-ltb, le-ltb}
-use borrow.Author.Rules.{rules}
 use Rattle.engine.specs.Job.{job_test}
 use Rattle.engine.proofs.job.job_refusal.Goals as goal
 

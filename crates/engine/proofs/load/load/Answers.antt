@@ -3,9 +3,8 @@ use mathlib.Core.Path.{◌≡◌, refl, sym, ◌∙◌}
 use mathlib.Core.List.{List}
 use Prim.Native.Nat.{ℕ, zero, suc}
 use lib.IntN.{ℤ}
-use Rattle.engine.specs.Load.{load_refusal_of, load_by, load_of}
+use Rattle.engine.specs.Load.{load_by, load_of}
 use Rattle.engine.proofs.Accepted.{load-accepted}
-use borrow.Author.Rules.{rules}
 use Rattle.engine.proofs.load.load.Goals as goal
 
 refused : (n : ℕ) (rec : List ℕ) (l : List ℤ) → (n ≡ 0 → ⊥) → record { reply = record { number = n; heard = 0; job = record { turn = 0; made = 0 } }; workspace = l } ≡ load_by n rec l

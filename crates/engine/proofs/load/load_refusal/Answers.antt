@@ -1,7 +1,6 @@
 -- `load_refusal` meets its contract: the tests passed so far, and the one that decides. Assumes nothing.
 use mathlib.Core.Path.{sym, ◌∙◌}
 use borrow.Author.Tests.{lt-ltb, le-ltb, ne_eqb}
-use borrow.Author.Rules.{rules}
 use Rattle.engine.specs.Load.{load_refusal_of}
 use Rattle.refusals.proofs.Refusals.{first_is, header_passed}
 use Rattle.engine.proofs.load.load_refusal.Goals as goal

@@ -3,9 +3,8 @@ use mathlib.Core.Path.{◌≡◌, refl, sym, ◌∙◌}
 use mathlib.Core.List.{List}
 use Prim.Native.Nat.{ℕ, zero, suc}
 use lib.IntN.{ℤ}
-use Rattle.engine.specs.Read.{read_refusal_of, read_by, read_of}
+use Rattle.engine.specs.Read.{read_by, read_of}
 use Rattle.engine.proofs.Accepted.{read-accepted}
-use borrow.Author.Rules.{rules}
 use Rattle.engine.proofs.read.read.Goals as goal
 
 refused : (n : ℕ) (rec : List ℕ) (l : List ℤ) → (n ≡ 0 → ⊥) → record { reply = record { number = n; job = record { turn = 0; made = 0 } }; workspace = l } ≡ read_by n rec l

@@ -1,7 +1,6 @@
 -- `read_refusal` meets its contract: the tests passed so far, and the one that decides. Assumes nothing.
 use mathlib.Core.Path.{sym, ◌∙◌}
-use borrow.Author.Tests.{lt-ltb, le-ltb, not-true, not-false}
-use borrow.Author.Rules.{rules}
+use borrow.Author.Tests.{lt-ltb, le-ltb}
 use Rattle.engine.specs.Read.{read_refusal_of}
 use Rattle.refusals.proofs.Refusals.{first_is, header_passed}
 use Rattle.engine.proofs.read.read_refusal.Goals as goal

@@ -4,11 +4,10 @@ use mathlib.Core.Path.{◌≡◌, refl, sym, ◌∙◌}
 use mathlib.Core.List.{List}
 use native.Mathlib.Omega.{arith}
 use lib.IntN.{ℤ}
-use borrow.Author.Rules.{rules}
 use Rattle.rotation.specs.declared.Tally.{Tally}
 use Rattle.workspace.specs.Rotations.{words_after, saturations_counted, turns_made}
 use Rattle.workspace.proofs.WordsAfter.{turns_made_le}
-use Rattle.engine.specs.Run.{next_job, run_done, run_refusal_of, run_by, run_of}
+use Rattle.engine.specs.Run.{next_job, run_done, run_by, run_of}
 use Rattle.engine.specs.declared.job.Job.{Job}
 use Rattle.engine.proofs.Accepted.{run_accepted}
 use Rattle.engine.proofs.run.run.Goals as goal

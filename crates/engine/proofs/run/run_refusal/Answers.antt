@@ -1,6 +1,5 @@
 -- `run_refusal` meets its contract: the tests passed so far, and the one that decides. Assumes nothing.
 use borrow.Author.Tests.{lt-ltb, le-ltb}
-use borrow.Author.Rules.{rules}
 use Rattle.engine.specs.Run.{run_refusal_of}
 use Rattle.engine.proofs.run.run_refusal.Goals as goal
 

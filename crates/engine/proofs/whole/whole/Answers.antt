@@ -12,9 +12,8 @@ use Rattle.rotation.specs.declared.Saturations.{Saturations}
 use Rattle.workspace.specs.Workspace.{R, Q}
 use Rattle.workspace.specs.Loading.{loaded_words}
 use Rattle.workspace.specs.Rotations.{words_after, saturations_counted}
-use Rattle.engine.specs.Whole.{whole_refusal_of, whole_done, whole_by, whole_of}
+use Rattle.engine.specs.Whole.{whole_done, whole_by, whole_of}
 use Rattle.engine.proofs.Accepted.{whole-accepted}
-use borrow.Author.Rules.{rules}
 use Rattle.engine.proofs.whole.whole.Goals as goal
 
 refused : (n : ℕ) (rec : List ℕ) (l : List ℤ) (buffer : List ℕ) → (n ≡ 0 → ⊥) → record { reply = record { number = n; heard = 0; clamps_r = 0; clamps_q = 0 }; workspace = l; buffer = buffer } ≡ whole_by n rec l buffer

@@ -1,5 +1,5 @@
 -- One turn more is taken, counted and added up. Assumes nothing.
-use Rattle.std.proofs.Common.{◌≡◌, ◌≤◌, refl, arith, add-one}
+use Rattle.std.proofs.Common.{◌≤◌, refl, arith, add-one}
 use Rattle.rotation.proofs.Counts.{count_none, count_more, count_le}
 use Rattle.workspace.specs.Rotations.{words_after, saturations_counted, turns_made}
 use Rattle.workspace.proofs.WordsAfter.{turn_count_one, turn_made_one, turns_made_le}
