@@ -143,7 +143,7 @@ mod tests {
             sort,
         };
         let items = vec![
-            item("loadOf", "crates/a/specs/L.antt", Sort::Spec),
+            item("load_of", "crates/a/specs/L.antt", Sort::Spec),
             item("load", "crates/a/src/l.rt", Sort::Contract),
             item("early", "crates/a/must-fail/early.edit", Sort::Wrong),
         ];
@@ -161,10 +161,10 @@ mod tests {
     fn blocks_with_links() {
         let text = r#"% c
 == D1 Demand 1
-By {D loadOf} {x}.
+By {D load_of} {x}.
 
 > "one"
-C load -- as {D loadOf}
+C load -- as {D load_of}
 
 > "two"
 N why
@@ -172,10 +172,10 @@ X early
 "#;
         let expected = r#"## Demand 1
 
-By [`loadOf`](../crates/a/specs/L.antt) {x}.
+By [`load_of`](../crates/a/specs/L.antt) {x}.
 
 **D1.1** "one"
-- C [`load`](../crates/a/src/l.rt): as [`loadOf`](../crates/a/specs/L.antt)
+- C [`load`](../crates/a/src/l.rt): as [`load_of`](../crates/a/specs/L.antt)
 
 **D1.2** "two"
 - N why

@@ -72,11 +72,12 @@ pub fn pins(texts: &Texts, named: &Named) -> Pins {
     }
 }
 
-/// The crates of `crates.txt`: a line `name: what it stands on` for each.
+/// The crates of `crates.txt`: a line `name: what it stands on` for each, or `name staticlib: ..`.
 fn listed(text: &str) -> Vec<String> {
     let lines = text.lines().filter(|line| !line.starts_with('#'));
-    let names = lines.filter_map(|line| line.split_once(':'));
-    names.map(|(name, _)| name.trim().to_string()).collect()
+    let heads = lines.filter_map(|line| line.split_once(':'));
+    let names = heads.filter_map(|(head, _)| head.split_whitespace().next());
+    names.map(String::from).collect()
 }
 
 /// Crates that stand in one of `crates/` and `crates.txt` alone: `rt ci` would not look at them.
@@ -131,7 +132,7 @@ mod tests {
 
     fn made() -> Pins {
         let texts = tree(&[
-            ("crates.txt", "# all\na:\ngone: a\n"),
+            ("crates.txt", "# all\na:\ngone staticlib: a\n"),
             ("crates/a/specs/S.antt", SPECS),
             ("crates/a/src/lib.rt", SOURCE),
             ("crates/a/must-fail/e.edit", EDITS),

@@ -10,7 +10,10 @@ pub mod outside;
 pub mod rattle;
 
 /// What is built, and what is no part of the tree.
-const SKIPPED: [&str; 3] = ["build", "target", ".git"];
+const SKIPPED: [&str; 2] = ["build", ".git"];
+
+/// Where rt keeps what it makes of a crate: copies of sources among it.
+const OUT: &str = "out";
 
 /// The files of the tree by their paths from the top. What is no text is read as one all the same.
 pub type Texts = BTreeMap<String, String>;
@@ -42,7 +45,7 @@ fn files(top: &Path, folder: &str) -> io::Result<Vec<String>> {
     entries.sort_by_key(|entry| entry.file_name());
     for entry in entries {
         let name = entry.file_name().to_string_lossy().into_owned();
-        if folder.is_empty() && SKIPPED.contains(&name.as_str()) {
+        if is_built(folder, &name) {
             continue;
         }
         let path = format!("{folder}{}{name}", if folder.is_empty() { "" } else { "/" });
@@ -53,6 +56,13 @@ fn files(top: &Path, folder: &str) -> io::Result<Vec<String>> {
         }
     }
     Ok(found)
+}
+
+/// Whether what a folder holds by this name is made from the tree, and no part of it.
+fn is_built(folder: &str, name: &str) -> bool {
+    let parts: Vec<&str> = folder.split('/').collect();
+    folder.is_empty() && SKIPPED.contains(&name)
+        || matches!(parts[..], ["crates", _]) && name == OUT
 }
 
 /// What a path ends with after its last point.
@@ -121,11 +131,17 @@ mod tests {
                 .collect::<Vec<_>>(),
             ["one", "two"]
         );
-        let found = items_of("crates/a/proofs/m/f/Proof.antt", "returns : ℕ\n");
+        let found = items_of("crates/a/proofs/m/f/Answers.antt", "returns : ℕ\n");
         assert!(found[0].is_called("a.m.f.returns") && found[0].sort == Sort::Proof);
         let found = items_of("crates/a/src/m.rt", "pub const ONE: u8 = 1;\n");
         assert!(found[0].is_called("a.m.ONE") && found[0].sort == Sort::Constant);
         assert!(items_of("crates/a/stdout", "fn f").is_empty());
         assert!(items_of("tests/t.rs", "fn f() {}")[0].is_called("t.f"));
+    }
+
+    #[test]
+    fn what_is_built_is_no_part_of_the_tree() {
+        assert!(is_built("", "build") && is_built("crates/a", "out"));
+        assert!(!is_built("crates/a/src", "out") && !is_built("host", "build"));
     }
 }

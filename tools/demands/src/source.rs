@@ -5,7 +5,7 @@
 //!
 //! == D1 Demand 1                 a section: what its sentences' ids begin with, and its title
 //!
-//! Any other text is Markdown. {D loadOf} in it becomes a link to that definition.
+//! Any other text is Markdown. {D load_of} in it becomes a link to that definition.
 //!
 //! > "every call shall end"       a sentence; a long one goes on in a second such line
 //! C load run -- both contracts   a carrier: its kind, one name or more, and perhaps a remark

@@ -164,7 +164,7 @@ mod tests {
         let items = vec![
             item(&["engine", "src", "load"], "load", Sort::Contract),
             item(&["engine", "src", "load"], "inner", Sort::Function),
-            item(&["engine", "specs", "Load"], "loadOf", Sort::Spec),
+            item(&["engine", "specs", "Load"], "load_of", Sort::Spec),
             item(
                 &["accuracy", "specs", "Demand3", "Kept"],
                 "words",
@@ -196,8 +196,8 @@ mod tests {
     fn none_several_or_of_another_kind() {
         let tree = tree();
         let said = |kind, name| tree.find(kind, name).unwrap_err();
-        assert!(said(Kind::Definition, "loadOff")
-            .contains("nowhere; near it: engine.specs.Load.loadOf"));
+        assert!(said(Kind::Definition, "load_off")
+            .contains("nowhere; near it: engine.specs.Load.load_of"));
         assert!(said(Kind::Definition, "zzzzzz").contains("nor is anything like it"));
         assert!(said(Kind::Theorem, "words").contains("Demand3.Kept.words"));
         assert!(said(Kind::Contract, "inner").contains("a function without `ensures`"));

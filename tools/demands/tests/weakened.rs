@@ -6,7 +6,7 @@ use std::path::{Path, PathBuf};
 use std::process::Command;
 
 /// What is built, and what is no part of the tree.
-const SKIPPED: [&str; 3] = ["build", "target", ".git"];
+const SKIPPED: [&str; 3] = ["build", "out", ".git"];
 
 /// A copy of the tree, which goes with the test.
 struct Copy(PathBuf);
@@ -98,12 +98,13 @@ fn the_tree_itself_is_accepted() {
 fn contracts_that_say_less() {
     let face = "crates/hubqr/src/lib.rt";
     refuses("clause", "fetch_of_any_job", |copy| {
-        let clause = "record { number = r; buffer = now (buffer .exit) } ≡ fetchOf job (now (area .entry)) (now (buffer .entry))";
-        copy.replace(face, clause, "now (buffer .exit) ≡ now (buffer .exit)");
+        let clause =
+            "record { number = result; buffer = buffer.new } ≡ fetch_of job area.now buffer.old";
+        copy.replace(face, clause, "buffer.new ≡ buffer.new");
     });
     refuses("no-clause", "hubqr_read", |copy| {
-        let clause = "record { reply = r; workspace = now (area .exit) } ≡ readOf (now (bytes .entry)) (now (area .entry))";
-        let line = format!("    ensures {{ λ r. ⌜ {clause} ⌝ }}\n");
+        let clause = "record { reply = result; workspace = area.new } ≡ read_of bytes.now area.old";
+        let line = format!("    ensures {{ {clause} }}\n");
         copy.replace(face, &line, "");
     });
 }
@@ -114,7 +115,7 @@ fn theorems_that_say_less() {
     refuses("no-k", "docs/PINS.md", |copy| {
         copy.replace(
             demand,
-            "(k : ℕ) → k < min rotationCount (reached l p .granted)\n",
+            "(k : ℕ) → k < min rotation_count (reached l p).granted\n",
             "(k : ℕ) → k < 0\n",
         );
     });
@@ -127,7 +128,7 @@ fn theorems_that_say_less() {
         );
     });
     refuses("in-step", "any_workspace_in_step", |copy| {
-        copy.replace(demand, "(lentOf c ≡ loaded) × ", "");
+        copy.replace(demand, "(lent_of c ≡ loaded) × ", "");
     });
 }
 
@@ -136,7 +137,7 @@ fn statements_that_nobody_proves() {
     for (name, path) in [
         ("silence : Silence", "engine_laws/proofs/Silence.antt"),
         (
-            "whole-demand3 : WholeDemand3",
+            "whole_demand3 : WholeDemand3",
             "accuracy/proofs/WholeDemand3.antt",
         ),
     ] {
@@ -155,7 +156,7 @@ fn clauses_and_rows_that_are_gone() {
         copy.without(&format!("{laws}/Marked.antt"), "∷ rotates");
     });
     refuses("heard", "refused_load_is_heard", |copy| {
-        copy.without(&format!("{laws}/Silence.antt"), "pub load-heard :");
+        copy.without(&format!("{laws}/Silence.antt"), "pub load_heard :");
     });
     refuses("tail", "word_511_kept_by_read", |copy| {
         copy.without(&format!("{laws}/Tails.antt"), "pub read :");

@@ -105,12 +105,12 @@ fn constructor(spec: &Spec, tables: &[Table]) -> (String, Vec<usize>, String) {
     (spec.shown(), pins.into_iter().collect(), wanted)
 }
 
-/// The function whose contract the `returns` of a `Proof.antt` proves, as path parts.
+/// The function whose contract the `returns` of an `Answers.antt` proves, as path parts.
 fn proved_function(spec: &Spec) -> Option<String> {
     let folder = spec
         .path
         .strip_prefix(&format!("crates/{}/proofs/", spec.of_crate))?;
-    let folder = folder.strip_suffix("/Proof.antt")?;
+    let folder = folder.strip_suffix("/Answers.antt")?;
     (spec.inner.name == "returns").then(|| folder.replace('/', "::"))
 }
 
@@ -176,8 +176,8 @@ module _ (n : ℕ) where
             ("crates/a/specs/S.antt", SPECS),
             ("crates/a/proofs/P.antt", PROOFS),
             (
-                "crates/a/proofs/m/f/Proof.antt",
-                "returns : tie.Need\nreturns = x\n",
+                "crates/a/proofs/m/f/Answers.antt",
+                "pub returns : goal.returns\nreturns c = x\n",
             ),
             ("crates/a/src/m.rt", "fn f() {\n    7\n}\n"),
             ("crates/a/must-fail/e.edit", edits),
@@ -239,7 +239,7 @@ module _ (n : ℕ) where
 
     #[test]
     fn the_proof_of_a_contract_is_pinned_by_its_function() {
-        let cited = [("proofs/m/f/Proof.antt", "a.proofs.m.f.Proof.returns")];
+        let cited = [("proofs/m/f/Answers.antt", "a.proofs.m.f.Answers.returns")];
         let found = pins(&cited, &edit("fn: m::f", "src/m.rt", "    7"));
         assert_eq!(found, [said("m::f.returns", 1)]);
     }
