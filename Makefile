@@ -4,11 +4,12 @@
 # make build/libhubqr.a the archive for C and Rust
 # make build/qr         the program that factors a matrix record
 # make build/page       the program that prints R of a result record
-# make prove            every crate from nothing, every wrong program
+# make prove            every crate and its layout, every wrong program, each program run: rt ci
 # make check-docs       each promise is pinned, and the documents cite what is there
-# make check-format     the layout of the Rattle and the Rust side, and what clippy says of the latter
+# make check-format     the layout of the Rust side, and what clippy says of it
 # make check-tools      the tools of the gate notice what they should
-# make check-edits      each wrong program was refused by itself; after prove
+# make check-edits      each file of wrong programs was refused for the sake of one of them; after prove
+# make try-edits        each wrong program was refused by itself: CRATES=".." says of which crates; a check for each file of them
 # make check-face       header, archive, host/rust and the exports in crates/ agree
 # make check-archive    the archive is the same when it is made again, and fuses no operations on floats
 # make check-c          the tests in C and C++, by gcc, clang and under valgrind
@@ -23,16 +24,14 @@ CC ?= cc
 CXX ?= c++
 CFLAGS := -std=c11 -Wall -Wextra -Werror -pedantic -Iinclude
 CARGO := cargo --quiet
-SOURCES := crates.txt $(shell find crates -type f)
+SOURCES := crates.txt $(shell find crates -path 'crates/*/out' -prune -o -type f -print)
 TOOLS := build/cargo/release
 EXAMPLES := $(TOOLS)/instalments $(TOOLS)/snapshots $(TOOLS)/weights $(TOOLS)/verify $(TOOLS)/log $(TOOLS)/desk
-# rt waits for each batch of its checks, and they are of unequal length: with two jobs for each processor it waits less.
-RT_JOBS ?= $(shell n=$$(nproc 2> /dev/null) || n=1; echo $$((2 * n)))
-export RT_JOBS
+CRATES := $(sort $(foreach folder,$(wildcard crates/*/must-fail),$(notdir $(patsubst %/,%,$(dir $(folder))))))
 
-# The targets share target/ and the order of `test` is meant, so one is made after the other; rt and cargo use every core themselves.
+# The targets share build/ and the order of `test` is meant, so one is made after the other; rt and cargo use every core themselves.
 .NOTPARALLEL:
-.PHONY: help run test prove demands bench figures clean
+.PHONY: help run test prove try-edits demands bench figures clean
 .PHONY: check-docs check-format check-tools check-edits check-face check-archive check-c check-rust check-examples
 
 help:
@@ -42,9 +41,9 @@ help:
 need-%: FORCE
 	@CC='$(CC)' CXX='$(CXX)' sh tools/need.sh $*
 
-prove build/libhubqr.a build/qr build/page check-tools: | need-platform need-rt
+prove try-edits build/libhubqr.a build/qr build/page check-tools: | need-platform need-rt
 check-docs check-tools check-format check-rust demands bench figures $(TOOLS)/record $(EXAMPLES): | need-cargo
-check-format: | need-rt need-rustfmt need-clippy
+check-format: | need-rustfmt need-clippy
 check-tools check-c check-examples bench: | need-cc need-gcc
 check-tools check-c: | need-c++
 
@@ -52,9 +51,11 @@ check-tools check-c: | need-c++
 run: need-cargo $(TOOLS)/record build/qr build/page
 	@sh examples/run.sh build/qr build/page $(TOOLS)/record build/result.bin
 
-# What takes seconds comes first. The proofs are made once, and what is tested after them is built from what they left. The last line is their
-# verdict again, N passed, 0 failed: it is printed only when nothing before it failed, and when docs/PINS.md has the same one. That page lists every
-# crate, and counts the edit files of each, so that none goes unseen.
+# What takes seconds comes first. The proofs are made once, and what is tested after them is built from what they left. Nothing is removed ahead:
+# rt trusts nothing in crates/*/out, `prove` makes the archive and the programs anew whatever stands in build/, cargo goes by its own account of what
+# it built from what, and the C programs are compiled each time. The last line is the proofs' verdict again, N passed, 0 failed: it is printed only
+# when nothing before it failed, and when docs/PINS.md has the same one. That page lists every crate, and counts the edit files of each, so that none
+# goes unseen.
 test: check-docs check-format check-tools prove check-edits check-face check-archive check-c check-rust check-examples
 	@verdict="$$(grep '^[0-9]* passed, 0 failed$$' build/ci.log)" || exit 1; \
 	if ! grep -qF "last line is \`$$verdict\`" docs/PINS.md; then \
@@ -63,25 +64,13 @@ test: check-docs check-format check-tools prove check-edits check-face check-arc
 	fi; \
 	echo "$$verdict"
 
-# Every crate from nothing, every wrong program, each program run. The status goes by a file, since that of a pipe is tee's.
+# rt ci takes what it proved of the same files before, on this machine, and proves the rest from nothing. Then the archive and the programs are made.
 prove:
-	@mkdir -p build
-	@rm -f build/ci.status build/libhubqr.a build/qr build/page
-	{ rt ci 2>&1; echo $$? > build/ci.status; } | tee build/ci.log
-	@exit "$$(cat build/ci.status)"
+	sh tools/prove.sh
 
-# Where the crates below have just been proved, only the face's own exports are proved again: rt compiles nothing that it has not just checked.
-build/libhubqr.a: $(SOURCES)
-	@mkdir -p build
-	@echo 'proving hubqr and what it stands on: one or two minutes, seconds where that has just been proved ..'
-	@rt staticlib hubqr > build/staticlib.log 2>&1 || { cat build/staticlib.log; exit 1; }
-	@cp target/staticlib/libhubqr.a $@
-
-build/qr build/page: $(SOURCES)
-	@mkdir -p build
-	@echo 'proving $(@F) and what it stands on: up to two minutes, seconds where that has just been proved ..'
-	@rt check $(@F) > $@.log 2>&1 || { cat $@.log; exit 1; }
-	@cp target/bin/$(@F) $@
+# Only proved code is built: where rt ci has passed these very files it is there in seconds, else rt proves them first.
+build/libhubqr.a build/qr build/page: $(SOURCES)
+	@sh tools/build.sh $(@F)
 
 # Its verdicts are those of the archive.
 $(TOOLS)/record: build/libhubqr.a FORCE
@@ -99,7 +88,6 @@ demands:
 
 # clippy needs no archive, so that this comes before the proofs.
 check-format:
-	rt fmt --check
 	cargo fmt --all --check
 	cargo clippy --quiet --release --workspace --all-targets -- -D warnings
 
@@ -110,6 +98,11 @@ check-tools:
 
 check-edits:
 	sh tools/check-edits.sh
+
+# Seconds to a minute for each file, and rt ci has tried them all: it is for whoever writes an edit, and no part of `test`.
+try-edits:
+	sh tools/try-edits.sh $(CRATES)
+	sh tools/check-edits.sh each $(CRATES)
 
 # Header, archive, host/rust and the exports in crates/ declare the same face.
 check-face: build/libhubqr.a
@@ -151,6 +144,6 @@ figures: build/libhubqr.a
 	$(CARGO) run --release -p figures -- docs/figures
 
 clean:
-	rm -rf build target
+	rm -rf build crates/*/out
 
 FORCE:

@@ -4,12 +4,12 @@
 #   its instructions on floats round one operation each, as the proofs have it: none is fused, and none is of the x87, which keeps more bits
 #   made a second time, from what has been proved, it is the same byte for byte
 #   and the line of its proof, the only one that counts what the crates below assume as well, counts no axiom and no foreign function
-# Two folders are not compared here: that would prove every crate a second time. Run from anywhere; rt checks hubqr again, in seconds.
+# Two folders are not compared here: that would prove every crate a second time. Run from anywhere; the exports are proved again, in seconds.
 set -u
 cd "$(dirname "$0")/.." || exit 1
 export LC_ALL=C
 archive=build/libhubqr.a
-made=target/staticlib/libhubqr.a
+first=build/archive.first
 
 fail() {
     echo "archive: FAILED: $1" >&2
@@ -29,13 +29,12 @@ bad=$(grep -E '^(f|vf|v4f)' build/archive.instructions)
 for name in sub mul div; do
     grep -q -E "^v?$name[sp]d\$" build/archive.instructions || fail "no instruction is ${name}sd, so objdump has not shown all of it"
 done
-rm -f "$made"
-rt staticlib hubqr >build/staticlib.log 2>&1 || {
-    cat build/staticlib.log
-    fail 'it cannot be made a second time'
-}
-cmp "$archive" "$made" || fail 'made a second time it has other bytes'
-verdict=$(grep '^logic=' build/staticlib.log | tail -n 1)
+mv "$archive" "$first" || exit 1
+sh tools/build.sh libhubqr.a || fail 'it cannot be made a second time'
+cmp "$first" "$archive" || fail 'made a second time it has other bytes'
+# The first one again, with its time, so that nothing is built anew for it.
+mv "$first" "$archive" || exit 1
+verdict=$(grep '^logic=' build/libhubqr.a.log | tail -n 1)
 case $verdict in
 *' axioms='* | *' foreign='*) fail "it rests on what is assumed: $verdict" ;;
 'logic=proved '*) ;;

@@ -1,24 +1,37 @@
 #!/bin/sh
-# Checks that each wrong program of crates/NAME/must-fail/*.edit was refused for its own sake. An edit file holds one or more, each as
+# Checks that the wrong programs of crates/NAME/must-fail/*.edit are refused for their own sake. An edit file holds one or more, each as
 #   wrong: NAME        its name, once in the crate
-#   fn: FUNCTION       the function whose proof falls by itself, as the log has it; the crate's name may be left out
+#   fn: FUNCTION       the function whose proof falls by itself, as a check has it; the crate's name may be left out
 #   law: NAME          in place of fn: or beside it: the definition, law or theorem that falls by itself; NAME.FIELD where it is a record, in
 #                      whose proof the line of that field falls, so that several fields of it may be wrong in one file
 #   errors: N          where it has several pairs, each of which is to be refused: how many errors of that function or law the log has
 #   file:, old:, new:  its edits, one pair or more
-# `rt ci` applies all the pairs of a file together and asks only that the crate as a whole is refused. Which functions and laws fell stands in the
-# log that it leaves, so this runs after it. Prints each fault and ends with 1, or prints how many wrong programs there are.
+# `rt ci` applies all the pairs of a file together, and asks only that the crate as a whole is refused. It keeps no log of an edit, and says where
+# the first of the errors stands. Two ways:
+#   check-edits.sh              after `rt ci`, in the gate: by build/ci.log each file was refused, by the prover's verdict and no limit of it, not
+#                               only since a proof names what the edit took away, and first where one of its wrong programs says so
+#   check-edits.sh each NAME..  after tools/try-edits.sh, by hand: by the logs in build/must-fail each wrong program of these crates was refused
+#                               by itself
+# Prints each fault and ends with 1, or prints how many wrong programs there are.
 set -u
 cd "$(dirname "$0")/.." || exit 1
 export LC_ALL=C
 
-set --
-for edit in crates/*/must-fail/*.edit; do
-    [ -f "$edit" ] && set -- "$@" "$edit"
-done
-[ $# -gt 0 ] || { echo 'edits: there are none in crates/*/must-fail' && exit 1; }
+each=
+if [ "${1:-}" = each ]; then
+    each=1
+    shift
+fi
+[ $# -gt 0 ] || set -- '*'
+edits=$(for name; do ls crates/$name/must-fail/*.edit 2>/dev/null; done)
+[ -n "$edits" ] || { echo 'edits: there are none in crates/*/must-fail' && exit 1; }
+if [ -z "$each" ] && [ ! -f build/ci.log ]; then
+    echo 'edits: there is no build/ci.log: run `make prove` first'
+    exit 1
+fi
 
-awk '
+# The names of crates and edits have no blanks.
+awk -v each="$each" '
 function fault(of, text) {
     print edit ": " (of == "" ? "" : of ": ") text
     faults++
@@ -38,7 +51,6 @@ function begin_file(   parts) {
     crate = parts[2]
     label = parts[4]
     sub(/\.edit$/, "", label)
-    log_file = "target/must-fail/" crate "/" label "/.log"
     wrong = old = ""
     programs = carriers = named = pairs = early = 0
 }
@@ -65,10 +77,13 @@ function carrier(word) {
     carriers++
     named++
     kind[carriers] = word
-    name[carriers] = value()
+    name[carriers] = word == "fn" ? whole(value()) : value()
     by[carriers] = wrong
     wanted[carriers] = 0
 }
+
+# a function with its crate, as the check names it
+function whole(what) { return index(what, crate "::") == 1 ? what : crate "::" what }
 
 # how many errors the carrier just named is to have
 function errors() {
@@ -87,43 +102,63 @@ function end_file(   k) {
     end_program()
     if (early) fault("", "line " early " belongs to no wrong: line")
     else if (!programs) fault("", "it has no wrong: line")
-    if (!read_log()) { fault(wrong, "there is no " log_file ": run `rt ci` first"); return }
-    split("", used)
-    for (k = 1; k <= carriers; k++) check_carrier(kind[k], kind[k] == "fn" ? logged(name[k]) : name[k], by[k])
-    for (k = 1; k <= carriers; k++) if (kind[k] == "fn") check_function(logged(name[k]), by[k]); else check_law(name[k], by[k])
-    for (k = 1; k <= carriers; k++) if (wanted[k]) check_errors(kind[k], name[k], wanted[k], by[k])
-}
-
-function check_errors(word, what, count, of,   places, place, found) {
-    found = 0
-    if (word == "law") found = split(law_files[what], places, " ")
-    else for (place in faulty) if (index(place, "proofs/" folder_of(logged(what)) "/") == 1) found += faulty[place]
-    if (found != count) fault(of, word " " what " has " found " errors in the log, and not " count)
-}
-
-# where the proof of a function stands
-function folder_of(what) {
-    sub("^" crate "::", "", what)
-    gsub(/::/, "/", what)
-    return what
-}
-
-# An entry of the log begins at the start of a line, and its further lines are set in.
-function read_log(   line, entry, got) {
-    split("", verdict)
-    split("", law_files)
+    split("", fallen)
     split("", unfit)
-    split("", faulty)
-    while ((got = (getline line < log_file)) > 0) {
+    split("", verdict)
+    for (k = 1; k <= carriers; k++) check_alone(k)
+    if (!each) check_told()
+    else if (read_log()) for (k = 1; k <= carriers; k++) check_carrier(k)
+}
+
+# each function or law in one program of a file alone: who else fell could not be told
+function check_alone(k,   j) {
+    for (j = 1; j < k; j++) if (kind[j] == kind[k] && name[j] == name[k] && by[j] != by[k]) {
+        fault(by[k], kind[k] " " name[k] " is named by " by[j] " as well: give each a file of its own")
+        return
+    }
+}
+
+# What `rt ci` said of each file: CRATE/LABEL.edit, what it came to, and where the first error stands.
+function read_told(   line, at, of) {
+    while ((getline line < "build/ci.log") > 0) {
+        if (line !~ /^rt: must-fail [^ ]+\.edit: /) continue
+        sub(/^rt: must-fail /, "", line)
+        at = index(line, ": ")
+        of = substr(line, 1, at - 1)
+        told[of] = substr(line, at + 2)
+    }
+    close("build/ci.log")
+}
+
+function check_told(   text, k) {
+    if (!((crate "/" label ".edit") in told)) { fault("", "build/ci.log says nothing of it"); return }
+    text = told[crate "/" label ".edit"]
+    if (text !~ /^refused, as it must be/) { fault("", "it was not refused: " text); return }
+    if (text ~ /^refused, as it must be \(only because/) { fault("", "it is refused only since a proof names what the edit took away, which shows nothing of the program"); return }
+    if (text ~ /^refused, as it must be \(only by a limit/) { fault("", "it is refused only by a limit of the prover, which gave no verdict"); return }
+    if (!sub(/^refused, as it must be: /, "", text)) { fault("", "rt ci does not say where the error stands: " text); return }
+    read_entry(text)
+    for (k = 1; k <= carriers; k++) if ((kind[k], name[k]) in fallen) return
+    fault("", "what fell first is none of its fn: and law: lines: " text)
+}
+
+# An entry of a log begins at the start of a line, and its further lines are set in.
+function read_log(   line, entry, got, last, file) {
+    file = "build/must-fail/" crate "/" label ".log"
+    while ((got = (getline line < file)) > 0) {
         if (line ~ /^[ \t]/) { entry = entry " " line; continue }
+        if (line != "") last = line
         read_entry(entry)
         entry = line
     }
-    close(log_file)
+    close(file)
     read_entry(entry)
-    return got == 0
+    if (got) { fault("", "there is no " file ": run tools/try-edits.sh " crate); return 0 }
+    if (last !~ /^logic=not-proved/) { fault("", "its check ended in: " last); return 0 }
+    return 1
 }
 
+# Notes what fell, by itself, and where a text of a proof is unfit.
 function read_entry(entry,   at, place, law, field) {
     if (entry ~ /^fn [^ ]+: /) {
         sub(/^fn /, "", entry)
@@ -131,84 +166,105 @@ function read_entry(entry,   at, place, law, field) {
         verdict[substr(entry, 1, at - 1)] = substr(entry, at + 2)
         return
     }
-    at = index(entry, ": error: ")
-    if (!at) return
-    field = field_at(substr(entry, 1, at - 1))
-    place = inside(substr(entry, 1, at - 1))
-    entry = substr(entry, at + 9)
+    sub(/^note: /, "", entry)
+    if (entry !~ /^[^ ]+:[0-9]+:[0-9]+: /) return
+    at = index(entry, ": ")
+    place = substr(entry, 1, at - 1)
+    entry = substr(entry, at + 2)
+    sub(/^\.\//, "", place)
+    if (place ~ /^src\//) {
+        if (entry ~ /it is not proved that/) fallen["fn", function_at(place)]++
+        return
+    }
+    if (!sub(/^error: /, "", entry)) return
+    field = field_at(place)
+    sub(/:[0-9]+:[0-9]+$/, "", place)
     if (unfit_error(entry)) { unfit[place] = 1; return }
-    if (entry !~ /^`[^`]+`/ || entry ~ /was not admitted.*so this cannot be checked/) return
-    faulty[place]++
+    if (entry !~ /^`[^`]+`/ || entry ~ /was not admitted/) return
     law = substr(entry, 2)
     law = substr(law, 1, index(law, "`") - 1)
-    law_files[law] = law_files[law] " " place
-    if (field != "") law_files[law "." field] = law_files[law "." field] " " place
+    fallen["law", law]++
+    where["law", law] = where["law", law] " " place
+    if (field != "") { fallen["law", law "." field]++; where["law", law "." field] = place }
+    if (place ~ /\/(Answers|Invariants)\.antt$/) fallen["fn", function_of(place)]++
+}
+
+# an error of the proof text alone: it names what the edited code or definition does not have
+function unfit_error(entry) { return entry ~ /has no field|is not in scope|has no `|that +can +be +named +from +here/ }
+
+# the function whose proof is a file proofs/F/Answers.antt
+function function_of(place) {
+    sub(/^proofs\//, "", place)
+    sub(/\/[A-Za-z]+\.antt$/, "", place)
+    gsub(/\//, "::", place)
+    return crate "::" place
+}
+
+# the function of src/ that stands at a place PATH:LINE:COLUMN: an edit leaves each line where it is. A place may be that of an attribute above it
+function function_at(place,   parts, path, line, at, of, found, module) {
+    split(place, parts, ":")
+    path = "crates/" crate "/" parts[1]
+    module = parts[1]
+    sub(/^src\//, "", module)
+    sub(/\.rt$/, "", module)
+    gsub(/\//, "::", module)
+    module = module == "lib" || module == "main" ? crate : crate "::" module
+    for (at = 1; (getline line < path) > 0; at++) {
+        if (line ~ /^}/) of = ""
+        if (line ~ /^impl /) { of = line; sub(/^impl /, "", of); sub(/[^A-Za-z0-9_].*/, "", of) }
+        if (line ~ /^ *(pub(\([a-z]+\))? )?(extern "C" )?fn [a-z]/) {
+            sub(/^.*fn /, "", line)
+            sub(/[^a-z0-9_].*/, "", line)
+            found = module (of == "" ? "" : "::" of) "::" line
+            above = 0
+        } else if (at == parts[2] && line ~ /^ *#\[/) above = 1
+        if (at >= parts[2] && !above) break
+    }
+    close(path)
+    above = 0
+    return found
 }
 
 # the field of a record whose line `FIELD = ..` stands at a place PATH:LINE:COLUMN or next above it, within the same declaration
-function field_at(place,   parts, n, path, line, at, field) {
-    n = split(place, parts, ":")
-    if (n < 3) return ""
-    path = substr(place, 1, length(place) - length(parts[n - 1]) - length(parts[n]) - 2)
-    field = ""
-    for (at = 1; at <= parts[n - 1] && (getline line < path) > 0; at++) {
+function field_at(place,   parts, path, line, at, field) {
+    split(place, parts, ":")
+    path = "crates/" crate "/" parts[1]
+    for (at = 1; at <= parts[2] && (getline line < path) > 0; at++) {
         if (line ~ /^[^ }]/) field = ""
-        if (match(line, /^ +[a-z][a-z0-9-]* =( |$)/)) { field = line; gsub(/^ +| =.*/, "", field) }
+        if (match(line, /^ +[a-z][a-z0-9_-]* =( |$)/)) { field = line; gsub(/^ +| =.*/, "", field) }
     }
     close(path)
     return field
 }
 
-# an error of the proof text alone: it names a need or a field that the edited code does not have, or answers one need with the proof of another
-function unfit_error(entry) {
-    return entry ~ /that +can +be +named +from +here/ || entry ~ /record `[^`]*` +has +no +field/ || entry ~ /expected type `tie\.Need-/
+function check_carrier(k) {
+    if (kind[k] == "fn") check_function(name[k], by[k])
+    else if (!(("law", name[k]) in fallen)) fault(by[k], "the log has no error of law " name[k] " itself")
+    else check_places(where["law", name[k]], by[k])
+    if (wanted[k] && fallen[kind[k], name[k]] + 0 != wanted[k])
+        fault(by[k], kind[k] " " name[k] " has " (fallen[kind[k], name[k]] + 0) " errors in the log, and not " wanted[k])
 }
 
-# the path inside of the crate of a place PATH:LINE:COLUMN
-function inside(place,   folder) {
-    sub(/:[0-9]+:[0-9]+$/, "", place)
-    folder = "/must-fail/" crate "/" label "/"
-    if (index(place, folder)) place = substr(place, index(place, folder) + length(folder))
-    return place
-}
-
-# a function as the log names it
-function logged(function_name) { return function_name in verdict ? function_name : crate "::" function_name }
-
-# whether a verdict is a refusal of the function itself and not of one that it calls. Where it calls one that is refused, the verdict names that one
-# alone; the function is refused itself if its own proof has an error, which a wrong body of another function cannot cause: only the contract of that one is used
-function alone(text, folder) {
-    if (text ~ /^not proved; it calls /) return own_error(folder)
-    return text ~ /^not proved/ || text ~ /^no proof:/
-}
-
-function own_error(folder,   place) {
-    for (place in faulty) if (index(place, "proofs/" folder "/") == 1) return 1
-    return 0
-}
-
-function check_carrier(word, what, of) {
-    if ((word, what) in used && used[word, what] != of) fault(of, word " " what " is named by " used[word, what] " as well: give each a file of its own")
-    used[word, what] = of
-}
-
-function check_function(what, of,   text, folder, place) {
+# A function is refused by itself where an error stands in its own code or proof, which a wrong body of another function cannot cause: only the
+# contract of that one is used.
+function check_function(what, of,   folder, place) {
     if (!(what in verdict)) { fault(of, "the log has no fn " what); return }
-    text = verdict[what]
-    folder = folder_of(what)
-    if (!alone(text, folder)) fault(of, "fn " what " was not refused by itself: " text)
-    if (text ~ /the borrow checker does not cover/) fault(of, "fn " what " as it is edited is not covered by the prover, which shows nothing of the program")
-    for (place in unfit) if (index(place, "proofs/" folder "/") == 1) fault(of, unfit_text(place))
+    if (!(("fn", what) in fallen)) fault(of, "fn " what " was not refused by itself: " verdict[what])
+    folder = what
+    sub("^" crate "::", "", folder)
+    gsub(/::/, "/", folder)
+    for (place in unfit) if (index(place, "proofs/" folder "/") == 1) check_places(place, of)
 }
 
-function check_law(what, of,   places, n, k) {
-    if (!(what in law_files)) { fault(of, "the log has no error of law " what " itself"); return }
-    n = split(law_files[what], places, " ")
-    for (k = 1; k <= n; k++) if (places[k] in unfit) fault(of, unfit_text(places[k]))
+function check_places(text, of,   places, n, k) {
+    n = split(text, places, " ")
+    for (k = 1; k <= n; k++) if (places[k] in unfit) {
+        fault(of, "it made the text of " places[k] " unfit (it names what is not there), which shows nothing of the program")
+        return
+    }
 }
 
-function unfit_text(place) { return "it made the text of " place " unfit (it names what is not there), which shows nothing of the program" }
-
+BEGIN { if (!each) read_told() }
 FNR == 1 { end_file(); begin_file() }
 /^wrong:/ { begin_program() }
 /^fn:/ { carrier("fn") }
@@ -219,6 +275,7 @@ FNR == 1 { end_file(); begin_file() }
 END {
     end_file()
     if (faults) exit 1
-    print "edits: " total " wrong programs, each refused by itself"
+    if (each) print "edits: " total " wrong programs, each refused by itself"
+    else print "edits: " total " wrong programs, each file refused where one of its own says so"
 }
-' "$@"
+' $edits

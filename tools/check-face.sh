@@ -1,10 +1,11 @@
 #!/bin/sh
 # Checks that all who declare the face of libhubqr.a say what the headers in include/ say, and that these have their attributes:
-#   functions   the archive's symbols; name, parameters and result in host/rust/src/ffi.rs and of the exports in crates/*/src
+#   functions   the archive's symbols; name, parameters and result in host/rust/src/ffi.rs, of the exports in crates/hubqr_c/src and of what
+#               these call in crates/hubqr/src
 #   structs     fields, their order, types and lengths in host/rust/src/ffi.rs, and in crates/*/src where they are marked #[repr(C)]
 #   refusals    number, name and sentence in host/rust/src/refusal.rs; the numbers in crates/refusals/src
 #   roles       name and number in host/rust/src/role.rs and in crates/desk/src
-#   version     hubqr_version in crates/*/src, Cargo.toml, host/rust/Cargo.toml
+#   version     hubqr_version in crates/hubqr/src, Cargo.toml, host/rust/Cargo.toml
 # tools/face/*.awk read the sources into lines of a key (`function hubqr_load`, `struct load_reply`, ..), a tab and the content.
 # Prints what differs and ends with 1, or prints how many declarations agree. HUBQR_LIB_DIR names another folder with the archive.
 set -u
@@ -39,9 +40,9 @@ cargo_version() {
     awk -F '[".]' '/^version = / { printf "version\t%d\n", 10000 * $2 + 100 * $3 + $4; exit }' "$1"
 }
 
-# rattle FOLDER: all Rattle code in the folder.
+# rattle FOLDER: all Rattle code in the folder, but for the copies that rt keeps in a crate's out/.
 rattle() {
-    find "$1" -path '*/src/*' -name '*.rt' 2>/dev/null | sort | xargs cat /dev/null
+    find "$1" -name out -prune -o -path '*/src/*' -name '*.rt' -print 2>/dev/null | sort | xargs cat /dev/null
 }
 
 # compare SOURCE KIND...: prints where what a source says, on standard input, is not what the headers say of these kinds, and its faults.
@@ -68,12 +69,17 @@ fi
 scratch=$(mktemp -d) || exit 1
 trap 'rm -rf "$scratch"' EXIT
 read_by header include/*.h >"$scratch/headers"
+for name in hubqr hubqr_c; do
+    rattle crates/$name >"$scratch/$name"
+done
 rattle crates >"$scratch/rattle"
 {
     awk -F '\t' '$1 == "fault" { print "include/: " $2 }' "$scratch/headers"
     symbols "$archive" | compare "$archive" symbol
     read_by rust host/rust/src/ffi.rs | compare host/rust/src/ffi.rs function struct
-    read_by rust "$scratch/rattle" | compare 'crates/*/src' function struct version
+    read_by rust "$scratch/hubqr_c" | compare crates/hubqr_c/src function
+    read_by rust "$scratch/hubqr" | compare crates/hubqr/src function version
+    read_by rust "$scratch/rattle" | compare 'crates/*/src' struct
     read_by refusals host/rust/src/refusal.rs | compare host/rust/src/refusal.rs refusal
     rattle crates/refusals | numbers | compare crates/refusals/src number
     roles <host/rust/src/role.rs | compare host/rust/src/role.rs role

@@ -3,7 +3,7 @@
 # Usage: tools/need.sh NEED...    where NEED is platform, rt, cargo, rustfmt, clippy, cc, gcc or c++; CC and CXX name other compilers
 set -u
 export LC_ALL=C
-kit=5
+kit=13
 rust=84
 missing=0
 
@@ -20,13 +20,17 @@ need_platform() {
         lacks "this is $found: the archive and the programs are for x86-64 Linux only, since the Rattle kit builds for no other machine"
 }
 
-# The kit's number stands at the begin of what `rt version` prints: rattle-kit-5b is 5.
+# The kit's number stands at the begin of what `rt version` prints: rattle-kit-13f is 13.
 need_rt() {
     from="it is the command of the Rattle kit, which proves and compiles the crates; install rattle-kit-$kit or newer and put its rt on PATH"
     if ! command -v rt >/dev/null; then
         lacks "rt is not installed: $from"
         return
     fi
+    command -v python3 >/dev/null || {
+        lacks "python3 is not installed: rt is a program in Python 3.8 or newer; the system's package python3 brings it"
+        return
+    }
     found=$(rt version 2>/dev/null | sed -n '1s/^\(rattle-kit-[0-9][0-9a-z]*\).*/\1/p')
     number=$(echo "$found" | sed 's/^rattle-kit-\([0-9]*\).*/\1/')
     [ -n "$number" ] && [ "$number" -ge "$kit" ] || lacks "rt is of ${found:-an unknown kit}, which is too old: $from"

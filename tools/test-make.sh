@@ -32,7 +32,7 @@ stops() {
     esac
 }
 
-for target in prove build/libhubqr.a build/qr build/page build/cargo/release/record check-tools; do
+for target in prove try-edits build/libhubqr.a build/qr build/page build/cargo/release/record check-tools; do
     stops "$target" 'rt is not installed: '
 done
 for target in run check-format check-docs demands; do

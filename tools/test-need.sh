@@ -19,9 +19,9 @@ machine() {
     mkdir "$scratch/bin"
     ln -s "$(command -v sed)" "$(command -v sh)" "$scratch/bin/"
     program uname 'Linux x86_64'
-    program rt 'rattle-kit-5b logic 064da1ca440f63e7'
+    program rt 'rattle-kit-13f logic dac8208d650f15bf'
     program cargo 'cargo 1.84.0 (66221abde 2024-11-19)'
-    for name in rustfmt cargo-clippy cc gcc c++; do
+    for name in python3 rustfmt cargo-clippy cc gcc c++; do
         program "$name" "$name"
     done
 }
@@ -46,21 +46,26 @@ lacks() {
 
 machine
 has $everything
-program rt 'rattle-kit-12 logic 0'
+program rt 'rattle-kit-100 logic 0'
 program cargo 'cargo 1.100.0'
 has $everything
 for other in 'Linux aarch64' 'Darwin arm64'; do
     program uname "$other"
     lacks platform "this is $other: the archive and the programs are for x86-64 Linux only"
 done
-program rt 'rattle-kit-4c logic 0'
-lacks rt 'rt is of rattle-kit-4c, which is too old: '
+for other in rattle-kit-12c rattle-kit-5b; do
+    program rt "$other logic 0"
+    lacks rt "rt is of $other, which is too old: "
+done
 program rt 'something else'
 lacks rt 'rt is of an unknown kit, which is too old: '
 program cargo 'cargo 1.83.0 (5ffbef321 2024-10-29)'
 lacks cargo 'cargo is of Rust 1.83.0, which is too old: it comes with Rust 1.84 or newer'
 program cargo 'something else'
 lacks cargo 'cargo is of Rust (unknown), which is too old: '
+machine
+rm "$scratch/bin/python3"
+lacks rt 'python3 is not installed: rt is a program in Python'
 machine
 rm "$scratch/bin/cc"
 lacks cargo "cc is not installed: it is what Rust links programs with"

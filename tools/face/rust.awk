@@ -43,14 +43,14 @@ function structs(text,   at, name, fields) {
     }
 }
 
-# The body is what stands behind the last brace that opens: those of the contract are closed before it.
-function version(text,   at) {
-    at = index(text, "extern \"C\" fn hubqr_version")
-    if (!at) return
-    text = substr(text, at)
+# The body is what stands behind the last brace that opens: those of the contract are closed before it. One that hands on the call of another
+# crate has no number.
+function version(text) {
+    if (!match(text, /fn hubqr_version\(\)[^;{]*\{/)) return
+    text = substr(text, RSTART)
     text = substr(text, 1, index(text, "\n}") - 1)
     sub(/^.*\{/, "", text)
-    say("version", value(text))
+    if (text !~ /::/) say("version", value(text))
 }
 
 # Parameters or fields, apart by commas.
@@ -62,8 +62,8 @@ function named(text,   parts, n, k, out) {
     return substr(out, 3)
 }
 
-# `name: type`. A reference is a pointer, and one to a slice a pointer and a length. What C calls a record is called `bytes` in Rattle,
-# whose contracts have another use for the word.
+# `name: type`. A reference is a pointer, and one to a slice a pointer and a length. What C calls a record is called `bytes` in Rattle, and a
+# result `res`, since its contracts have another use for those words.
 function one_named(text,   name, target, pointer) {
     sub(/^pub(\([a-z]*\))? /, "", text)
     sub(/^mut /, "", text)
@@ -71,6 +71,7 @@ function one_named(text,   name, target, pointer) {
     sub(/ ?:.*/, "", name)
     sub(/^[^:]*: ?/, "", target)
     if (name == "bytes") name = "record"
+    if (name == "res") name = "result"
     if (target !~ /^&/) return name ": " type(target)
     pointer = target ~ /^&mut / ? "*mut " : "*const "
     sub(/^&(mut )?/, "", target)
