@@ -3,11 +3,13 @@
 # Only proved code is built. Right after `rt ci` the programs are those that it built and ran, and the archive is compiled over the libraries that it
 # left: `rt lib` would prove all of them again, since it takes no library that it has not built itself. Else, where a file of crates/ has changed, or
 # a library is gone or is one of `rt check`'s, rt proves what is not proved yet, which takes a while the first time.
+# The archive is for every x86-64, as its headers say; left to itself the kit compiles for x86-64-v2, as it does the programs, which test for that.
 set -u
 cd "$(dirname "$0")/.." || exit 1
 export LC_ALL=C
 name=$1
 log=$PWD/build/$name.log
+cpu=--cpu=x86-64
 mkdir -p build
 
 # stands CRATE: the crates of the repository that its line of crates.txt names
@@ -48,7 +50,7 @@ compiled() {
         set -- "$@" -L "dependency=../$crate/out/rlib"
     done
     set -- "$@" --antt-project "$kit/rattle/logic/antt-project.json" --logic-built "$kit/logic_built" --links hubqr_c=
-    set -- "$@" --crate-type staticlib --toolchain "$kit/toolchain" --backend llvm -o out/libhubqr_c.a
+    set -- "$@" --crate-type staticlib "$cpu" --toolchain "$kit/toolchain" --backend llvm -o out/libhubqr_c.a
     (cd crates/hubqr_c && mkdir -p out && rm -f out/libhubqr_c.a && "$kit/bin/rattle" build "$@")
 }
 
@@ -68,7 +70,7 @@ libhubqr.a)
     else
         echo 'proving hubqr_c and what it stands on: seconds where that has been proved here, else as long as its proofs take ..'
         rm -f crates/hubqr_c/out/libhubqr_c.a
-        (cd crates/hubqr_c && shown rt lib) || exit 1
+        (cd crates/hubqr_c && shown rt lib "$cpu") || exit 1
     fi
     cp crates/hubqr_c/out/libhubqr_c.a build/libhubqr.a
     ;;

@@ -3,7 +3,8 @@
 #   no member has a time, an owner or a mode of its own, and no text in it names this folder or one like it
 #   its instructions on floats round one operation each, as the proofs have it: none is fused, and none is of the x87, which keeps more bits
 #   made a second time, from what has been proved, it is the same byte for byte
-#   and the line of its proof, the only one that counts what the crates below assume as well, counts no axiom and no foreign function
+#   and the line of its proof, the only one that counts what the crates below assume as well, counts no axiom and no foreign function, and names
+#   no processor that it needs
 # Two folders are not compared here: that would prove every crate a second time. Run from anywhere; the exports are proved again, in seconds.
 set -u
 cd "$(dirname "$0")/.." || exit 1
@@ -37,6 +38,7 @@ mv "$first" "$archive" || exit 1
 verdict=$(grep '^logic=' build/libhubqr.a.log | tail -n 1)
 case $verdict in
 *' axioms='* | *' foreign='*) fail "it rests on what is assumed: $verdict" ;;
+*' cpu='*) fail "it is not for every x86-64: $verdict" ;;
 'logic=proved '*) ;;
 *) fail "there is no verdict of its proof: $verdict" ;;
 esac
