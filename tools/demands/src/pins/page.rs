@@ -10,10 +10,11 @@ use std::collections::BTreeSet;
 
 const INTRODUCTION: &str = "# What pins each promise
 
-A wrong program is an edit that the prover must refuse: `crates/*/must-fail` has them, and `tools/check-edits.sh` reads the logs of `rt ci` and says
-which of them was not refused for its own sake. A wrong program pins a promise when its edit stands in the text of the promise and makes it false, or
-makes the program wrong that the promise is about. Were the promise taken away, or weakened where the edit stands, the edit would no longer apply or
-no longer be refused, and the gate would fail; a change anywhere else in its text changes the sum that stands beside it.
+A wrong program is an edit that the prover must refuse: `crates/*/must-fail` has them, in files that `rt ci` tries one by one. `tools/check-edits.sh` reads
+where the first error of each file stands and says which was refused elsewhere than one of its programs says; after `make try-edits` it says so of each
+program. A wrong program pins a promise when its edit stands in the text of the promise and makes it false, or makes the program wrong that the promise
+is about. Were the promise taken away, or weakened where the edit stands, the edit would no longer apply or no longer be refused, and the gate would
+fail; a change anywhere else in its text changes the sum that stands beside it.
 
 This page is made from the tree and `docs/demands.txt` by `make demands`, and `make check-docs` compares it, so no crate, theorem, row, call or edit
 can go unseen. The sum of a theorem is that of its text, comments left out, and of all that it names in its crate; the sum of a clause is that of
