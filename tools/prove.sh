@@ -9,7 +9,8 @@ cd "$(dirname "$0")/.." || exit 1
 export LC_ALL=C
 mkdir -p build
 sum=$(sh tools/sum.sh) || exit 1
-# The status goes by a file, since that of a pipe is tee's.
+# The status goes by a file, since that of a pipe is tee's: 1 until rt ci has ended.
+echo 1 >build/ci.status
 { rt ci 2>&1; echo $? >build/ci.status; } | tee build/ci.log
 rm -f build/ci.sum build/libhubqr.a build/qr build/page
 status=$(cat build/ci.status)
