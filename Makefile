@@ -8,7 +8,7 @@
 # make check-docs       each promise is pinned, and the documents cite what is there
 # make check-format     the layout of the Rust side, and what clippy says of it
 # make check-tools      the tools of the gate notice what they should
-# make check-edits      each file of wrong programs was refused for the sake of one of them; after prove
+# make check-edits      each file of wrong programs was refused, and not for a reason that shows nothing; after prove
 # make try-edits        each wrong program was refused by itself: CRATES=".." says of which crates; a check for each file of them
 # make check-face       header, archive, host/rust and the exports in crates/ agree
 # make check-archive    the archive is the same when it is made again, and fuses no operations on floats

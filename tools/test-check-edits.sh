@@ -58,20 +58,20 @@ refused='refused, as it must be'
 
 program one 'fn: f' | edit one
 told one "$refused: $(open src/lib.rt:4:5 returns)"
-expect 0 'edits: 1 wrong programs, each file refused where one of its own says so'
+expect 0 'edits: 1 wrong programs in 1 files, each refused, 1 of these first where a program of theirs says so'
 
 # the same by its first line, in a module, in an impl, and by an attribute above it
 for pair in 'f src/lib.rt:1:1' 'a::m::f src/m.rt:7:1' 'm::Word::new src/m.rt:3:9' 'h src/lib.rt:7:1' 'a::h src/lib.rt:9:5'; do
     program one "fn: ${pair% *}" | edit one
     told one "$refused: $(open "${pair#* }" returns)"
-    expect 0 'edits: 1 wrong programs'
+    expect 0 'each refused, 1 of these first'
 done
 
 { program one 'fn: f' && program two 'law: some_law'; } | edit both
 told both "$refused: ./proofs/Law.antt:1:2: error: \`some_law\`: the two types differ"
 program three 'fn: m::f' | edit three
 told three "$refused: ./proofs/m/f/Answers.antt:8:3: error: \`returns\`: the two sides differ"
-expect 0 'edits: 3 wrong programs'
+expect 0 'edits: 3 wrong programs in 2 files, each refused, 2 of these first'
 
 program one 'fn: f' | edit one
 expect 1 'there is no build/ci.log'
@@ -98,13 +98,14 @@ program one 'fn: f' | edit one
 told one "$refused"
 expect 1 'one.edit: rt ci does not say where the error stands'
 
+# another function or law falls first
 program one 'fn: f' | edit one
 told one "$refused: $(open src/lib.rt:9:5 returns)"
-expect 1 'one.edit: what fell first is none of its fn: and law: lines'
+expect 0 'each refused, 0 of these first'
 
 program one 'law: some_law' | edit one
 told one "$refused: ./proofs/Law.antt:1:2: error: \`other_law\`: the two types differ, see \`some_law\`"
-expect 1 'one.edit: what fell first is none of its fn: and law: lines'
+expect 0 'each refused, 0 of these first'
 
 # The form of edit files, in both ways.
 program one '' | edit one

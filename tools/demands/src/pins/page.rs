@@ -11,8 +11,8 @@ use std::collections::BTreeSet;
 const INTRODUCTION: &str = "# What pins each promise
 
 A wrong program is an edit that the prover must refuse: `crates/*/must-fail` has them, in files that `rt ci` tries one by one. `tools/check-edits.sh` reads
-where the first error of each file stands and says which was refused elsewhere than one of its programs says; after `make try-edits` it says so of each
-program. A wrong program pins a promise when its edit stands in the text of the promise and makes it false, or makes the program wrong that the promise
+what that says of each file and tells which was refused in a way that shows nothing; after `make try-edits` it tells which program was not refused for
+its own sake. A wrong program pins a promise when its edit stands in the text of the promise and makes it false, or makes the program wrong that the promise
 is about. Were the promise taken away, or weakened where the edit stands, the edit would no longer apply or no longer be refused, and the gate would
 fail; a change anywhere else in its text changes the sum that stands beside it.
 
