@@ -101,8 +101,15 @@ impl Crates<'_> {
                 _ => {}
             }
         }
+        // the texts as the earlier pairs of an edit file have made them
+        let mut made = Texts::new();
+        let mut file = String::new();
         for program in programs {
-            faults.extend(crates.add_edit(program));
+            if file != program.path {
+                made.clear();
+                file.clone_from(&program.path);
+            }
+            faults.extend(crates.add_edit(program, &mut made));
         }
         (crates, faults)
     }
@@ -135,12 +142,13 @@ impl Crates<'_> {
         }
     }
 
-    /// Adds a wrong program, and answers what is wrong with it.
-    fn add_edit(&mut self, program: Program) -> Vec<String> {
+    /// Adds a wrong program, and answers what is wrong with it. Each of its pairs applies to what the
+    /// earlier ones of its file have made.
+    fn add_edit(&mut self, program: Program, made: &mut Texts) -> Vec<String> {
         let mut places = Vec::new();
         let mut faults = Vec::new();
         for pair in &program.pairs {
-            match self.declared_place(pair) {
+            match self.declared_place(pair, made) {
                 Ok(found) => places.extend(found),
                 Err(what) => faults.push(format!(
                     "{}:{}: {}: {what}",
@@ -167,9 +175,14 @@ impl Crates<'_> {
     }
 
     /// The place of a pair, which has to stand in some declaration, or none where it only changes
-    /// what a file uses of others.
-    fn declared_place(&self, pair: &Pair) -> Result<Option<Place>, String> {
-        let place = place(self.texts, pair)?;
+    /// what a file uses of others. Lines stay where they are, so that it is that of the file itself.
+    fn declared_place(&self, pair: &Pair, made: &mut Texts) -> Result<Option<Place>, String> {
+        let path = &pair.path;
+        let text = made.get(path).or_else(|| self.texts.get(path));
+        let text = text.ok_or_else(|| format!("there is no {path}"))?;
+        let place = place(text, pair)?;
+        let edited = text.replacen(&pair.old, &pair.new, 1);
+        made.insert(path.clone(), edited);
         let mut spans = self.specs.iter().map(Spec::span);
         let mut codes = self.code.iter().map(Code::span);
         if spans.any(|span| span.covers(&place)) || codes.any(|span| span.covers(&place)) {
@@ -288,6 +301,12 @@ pub mod tests {
         );
         let more = "old: use a;\nnew: use b;\n";
         assert!(faults(&(edit("m::Word::f", "        2") + more)).is_empty());
+        // a second pair for what the first one made, and one for what the first took away
+        let more = "old: use b;\nnew: use c;\n";
+        let first = edit("m::Word::f", "        2") + "old: use a;\nnew: use b;\n";
+        assert!(faults(&(first.clone() + more)).is_empty());
+        let again = "old: use a;\nnew: use c;\n";
+        assert!(faults(&(first + again))[0].contains("`use a;` stands 0 times"));
     }
 
     #[test]

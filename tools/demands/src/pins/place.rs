@@ -1,6 +1,5 @@
 //! Where the old text of a pair stands.
 use super::edit::Pair;
-use crate::scan::Texts;
 use std::ops::Range;
 
 /// A line of a file. Lines count from 0.
@@ -30,11 +29,10 @@ impl Span {
     }
 }
 
-/// The one place where the old text of a pair stands, or why there is not one. Where it stands in a
-/// comment it edits nothing.
-pub fn place(texts: &Texts, pair: &Pair) -> Result<Place, String> {
+/// The one place where the old text of a pair stands in a file's text, or why there is not one. Where
+/// it stands in a comment it edits nothing.
+pub fn place(text: &str, pair: &Pair) -> Result<Place, String> {
     let Pair { path, old, new, .. } = pair;
-    let text = texts.get(path).ok_or(format!("there is no {path}"))?;
     if old == new {
         return Err(format!("the new text is the old one, `{old}`"));
     }
@@ -60,15 +58,13 @@ mod tests {
 
     fn found(old: &str, new: &str) -> Result<usize, String> {
         let text = "// one\nfn f() -> u8 {\n    2\n}\nfn g() -> u8 {\n";
-        let texts = [("a.rt".to_string(), text.to_string())].into();
-        let pair = |path: &str| Pair {
+        let pair = Pair {
             line: 1,
-            path: path.to_string(),
+            path: "a.rt".to_string(),
             old: old.to_string(),
             new: new.to_string(),
         };
-        assert!(place(&texts, &pair("b.rt")).is_err());
-        place(&texts, &pair("a.rt")).map(|place| place.line)
+        place(text, &pair).map(|place| place.line)
     }
 
     #[test]
