@@ -29,7 +29,7 @@ use weights::WeightsReply;
 const HALF: u16 = 60;
 
 // The replies of Load, of both Runs and of Fetch.
-#[derive(Drop)]
+#[derive(Clone, Copy)]
 pub struct HalvesReply {
     pub load: LoadReply,
     pub first: RunReply,
@@ -38,21 +38,21 @@ pub struct HalvesReply {
 }
 
 // The replies of Read and of Fetch.
-#[derive(Drop)]
+#[derive(Clone, Copy)]
 pub struct AgainReply {
     pub read: ReadReply,
     pub number: u8,
 }
 
 // The replies of Whole and of Fetch.
-#[derive(Drop)]
+#[derive(Clone, Copy)]
 pub struct CopyReply {
     pub whole: WholeReply,
     pub number: u8,
 }
 
 // The numbers of both additions and of the writing.
-#[derive(Drop)]
+#[derive(Clone, Copy)]
 pub struct PairReply {
     pub first: u8,
     pub second: u8,
@@ -60,21 +60,21 @@ pub struct PairReply {
 }
 
 // The replies of Whole and of the weights.
-#[derive(Drop)]
+#[derive(Clone, Copy)]
 pub struct WeighedReply {
     pub whole: WholeReply,
     pub weights: WeightsReply,
 }
 
 // The replies of Whole and of the verdict.
-#[derive(Drop)]
+#[derive(Clone, Copy)]
 pub struct VerifiedReply {
     pub whole: WholeReply,
     pub verdict: Verdict,
 }
 
 // The replies of the sweep, of the add and of the reader.
-#[derive(Drop)]
+#[derive(Clone, Copy)]
 pub struct DailyReply {
     pub swept: LogReply,
     pub added: LogReply,
@@ -82,7 +82,7 @@ pub struct DailyReply {
 }
 
 // The replies of the setting of shares and the begin of a round, and of both hand-ins, Run and Fetch for a sector.
-#[derive(Drop)]
+#[derive(Clone, Copy)]
 pub struct ServedReply {
     pub set: DeskReply,
     pub begun: DeskReply,
@@ -93,7 +93,7 @@ pub struct ServedReply {
 }
 
 // The replies of the begin of a round, of Run and of the call for the heard byte.
-#[derive(Drop)]
+#[derive(Clone, Copy)]
 pub struct RoundReply {
     pub begun: DeskReply,
     pub run: DeskRunReply,

@@ -9,21 +9,21 @@ ghost use Rattle.cordic.specs.Range.{InRange};
 ghost use Rattle.cordic.specs.MicroRotation.{micro_rotation_of, oriented as oriented_z};
 
 // A 32-bit word as it is stored, and whether saturation altered it.
-#[derive(Drop)]
+#[derive(Clone, Copy)]
 pub struct Word {
     pub value: i32,
     pub saturated: bool,
 }
 
 // A column's two words during a rotation: the upper and the lower one.
-#[derive(Drop)]
+#[derive(Clone, Copy)]
 pub struct Pair {
     pub u: i64,
     pub v: i64,
 }
 
 // Both words of a column as a rotation stores them.
-#[derive(Drop)]
+#[derive(Clone, Copy)]
 pub struct Column {
     pub upper: Word,
     pub lower: Word,

@@ -9,7 +9,7 @@ use crate::{Sample, Sums};
 
 // The refusal's number and the sums: with the snapshot added, or, refused, as they were.
 #[repr(C)]
-#[derive(Drop)]
+#[derive(Clone, Copy)]
 pub struct AddReply {
     pub number: u8,
     pub sums: Sums,

@@ -25,7 +25,7 @@ pub struct Sample {
 // The sums of `count` snapshots, in the order of the matrix record: word 2 * (8 * i + j) is the real part of element (i, j), the next one its imaginary
 // part.
 #[repr(C)]
-#[derive(Drop)]
+#[derive(Clone, Copy)]
 pub struct Sums {
     pub count: u32,
     pub words: [i64; 128],

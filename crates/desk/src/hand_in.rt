@@ -12,7 +12,7 @@ use engine::job::Job;
 
 // The desk after the call, the refusal's number, and the sector's heard byte and job: as they stand where the matrix waits.
 #[repr(C)]
-#[derive(Drop)]
+#[derive(Clone, Copy)]
 pub struct DeskLoadReply {
     pub desk: Desk,
     pub number: u8,

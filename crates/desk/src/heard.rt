@@ -8,7 +8,7 @@ use crate::sector::heard_at;
 
 // The desk as it was, the refusal's number, and the heard byte.
 #[repr(C)]
-#[derive(Drop)]
+#[derive(Clone, Copy)]
 pub struct DeskHeardReply {
     pub desk: Desk,
     pub number: u8,

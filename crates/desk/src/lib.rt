@@ -47,7 +47,7 @@ pub struct Desk {
 
 // The desk after a call, and the refusal's number.
 #[repr(C)]
-#[derive(Drop)]
+#[derive(Clone, Copy)]
 pub struct DeskReply {
     pub desk: Desk,
     pub number: u8,

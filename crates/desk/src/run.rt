@@ -10,7 +10,7 @@ use engine::job::Job;
 // The desk after the call, the refusal's number, the sector's job, and of this call the turns, skipped ones included, the clamps in R and the clamps
 // in Q.
 #[repr(C)]
-#[derive(Drop)]
+#[derive(Clone, Copy)]
 pub struct DeskRunReply {
     pub desk: Desk,
     pub number: u8,

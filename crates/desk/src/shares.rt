@@ -7,7 +7,7 @@ use crate::{Desk, DeskReply, ROUND_TURNS};
 
 // The share of sector k at place k.
 #[repr(C)]
-#[derive(Drop)]
+#[derive(Clone, Copy)]
 pub struct Shares {
     pub shares: [u16; 8],
 }

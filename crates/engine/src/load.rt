@@ -6,7 +6,7 @@ use crate::job::Job;
 
 // The refusal's number, the heard byte and the job.
 #[repr(C)]
-#[derive(Drop)]
+#[derive(Clone, Copy)]
 pub struct LoadReply {
     pub number: u8,
     pub heard: u8,

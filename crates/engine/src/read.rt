@@ -6,7 +6,7 @@ use crate::job::Job;
 
 // The refusal's number and the job.
 #[repr(C)]
-#[derive(Drop)]
+#[derive(Clone, Copy)]
 pub struct ReadReply {
     pub number: u8,
     pub job: Job,

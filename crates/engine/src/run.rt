@@ -7,7 +7,7 @@ use crate::job::Job;
 
 // The refusal's number, the next job, and of this call the turns, skipped ones included, the clamps in R and the clamps in Q.
 #[repr(C)]
-#[derive(Drop)]
+#[derive(Clone, Copy)]
 pub struct RunReply {
     pub number: u8,
     pub job: Job,

@@ -4,7 +4,7 @@ ghost use Rattle.engine.specs.Whole.{WholeOutcome, whole_refusal_of, whole_of};
 
 // The refusal's number, the heard byte, the clamps in R and the clamps in Q.
 #[repr(C)]
-#[derive(Drop)]
+#[derive(Clone, Copy)]
 pub struct WholeReply {
     pub number: u8,
     pub heard: u8,

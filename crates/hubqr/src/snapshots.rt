@@ -9,7 +9,7 @@ use covariance::{Sample, Sums};
 
 // Eight samples, in a struct since C hands no array over by value.
 #[repr(C)]
-#[derive(Drop)]
+#[derive(Clone, Copy)]
 pub struct Snapshot {
     pub samples: [Sample; 8],
 }

@@ -8,7 +8,7 @@ use refusals::BROKEN_LOG;
 // The refusal's number, the entry's kind and day, where its body stands and how long that is, and where the next entry stands. At the end of the used bytes
 // stands no entry, and the kind is 0.
 #[repr(C)]
-#[derive(Drop)]
+#[derive(Clone, Copy)]
 pub struct LogEntry {
     pub number: u8,
     pub kind: u32,

@@ -8,7 +8,7 @@ ghost use Rattle.rotation.specs.Saturations.{no_saturations, added, CountOf};
 
 // What a rotation counts, or several together: the words that saturation altered in the columns of R, 0 to 15, and in those of Q,
 // 16 to 31.
-#[derive(Drop)]
+#[derive(Clone, Copy)]
 pub struct Saturations {
     pub r: u32,
     pub q: u32,
@@ -36,7 +36,7 @@ impl Saturations {
 
 // What comes of a turn, or of several together, besides the words: how many were truly made, since a clear one is skipped, and what
 // they counted.
-#[derive(Drop)]
+#[derive(Clone, Copy)]
 pub struct Tally {
     pub made: u32,
     pub saturations: Saturations,

@@ -6,7 +6,7 @@ ghost use Rattle.std.specs.Prelude.{◌≡◌, ◌<◌};
 ghost use Rattle.schedule.specs.Schedule.{rotation_count, schedule, flat, rotation_at_of};
 
 // A rotation (document 01's turn): its leading column and its two rows.
-#[derive(Drop)]
+#[derive(Clone, Copy)]
 pub struct Rotation {
     pub column: usize,
     pub upper: usize,

@@ -15,7 +15,7 @@ use workspace::result::fill_from_result;
 
 // The refusal's number, and 1 for yes. A refusal is neither yes nor no, and has 0.
 #[repr(C)]
-#[derive(Drop)]
+#[derive(Clone, Copy)]
 pub struct Verdict {
     pub number: u8,
     pub yes: u8,

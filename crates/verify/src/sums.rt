@@ -13,7 +13,7 @@ const LEAST: i64 = -17592186044416;
 const MOST: i64 = 17592186044416;
 
 // A sum in two parts: `high` times 2^30, and `low` more.
-#[derive(Drop)]
+#[derive(Clone, Copy)]
 pub struct Sum {
     pub high: i64,
     pub low: i64,

@@ -16,7 +16,7 @@ use result_record::r;
 
 // A weight, a complex number.
 #[repr(C)]
-#[derive(Drop)]
+#[derive(Clone, Copy)]
 pub struct Weight {
     pub re: f64,
     pub im: f64,
@@ -24,7 +24,7 @@ pub struct Weight {
 
 // The refusal's number and the weights, which are +0.0 in a refusal.
 #[repr(C)]
-#[derive(Drop)]
+#[derive(Clone, Copy)]
 pub struct WeightsReply {
     pub number: u8,
     pub weights: [Weight; 8],

@@ -8,7 +8,7 @@ use covariance::Sample;
 use result_record::q;
 
 // A whole-number sum in the making.
-#[derive(Drop)]
+#[derive(Clone, Copy)]
 struct Sum {
     value: i64,
 }
