@@ -13,7 +13,8 @@ use Rattle.workspace.specs.Workspace.{R, Q}
 use Rattle.accuracy.specs.Factorization.{gram}
 use Rattle.accuracy.specs.Demand3.{Load, workspace_after}
 use Rattle.accuracy.specs.Antennas.{re, im, real_product, imaginary_product, Antennas, AntennasKept}
-use Rattle.accuracy.proofs.Demand3.{first, done}
+use Rattle.accuracy.proofs.Start.{first}
+use Rattle.accuracy.proofs.Demand3.{done}
 
 module _ (rec : List ℕ) (i j : ℕ) (p : i < 8) (q : j < 8) where
   real_is : gram (real_entry_of rec) i j ≡ real_product rec i j

@@ -17,11 +17,8 @@ use Rattle.schedule.specs.Schedule.{rotation_at_of}
 use Rattle.matrix_record.specs.MatrixRecord.{real_entry_of}
 use Rattle.result_record.specs.ResultRecord.{result_byte, result_record_of}
 use Rattle.workspace.specs.Workspace.{R, Q, word_in}
-use Rattle.workspace.specs.Loading.{loaded_words}
 use Rattle.workspace.specs.Rotations.{workspace_saturations, words_after, saturations_counted, turns_made}
 use Rattle.engine.specs.declared.job.Job.{Job}
-use Rattle.engine.specs.Job.{loaded_job}
-use Rattle.engine.specs.Load.{load_of, load_by}
 use Rattle.engine.specs.Run.{RunOutcome, next_job, run_done, run_by, run_of}
 use Rattle.engine.specs.Fetch.{fetch_refusal_of, fetch_by, fetch_of}
 use Rattle.engine.proofs.Accepted.{load-accepted, fetch_accepted, fetch_passes}
@@ -30,6 +27,7 @@ use Rattle.accuracy.specs.Demand3.{Lent, loaded, other, RunCall, FetchCall, Call
 use Rattle.accuracy.proofs.WorkspaceAfter.{after_none, after-length, after_more, made_none, made_le, made_more, made_uncounted, more_uncounted}
 use Rattle.accuracy.proofs.Loading.{loaded-room, loaded_short, loaded-bounded, loaded-factored}
 use Rattle.accuracy.proofs.Finished.{finished}
+use Rattle.accuracy.proofs.Start.{first, start_is}
 
 -- ---- a Run is refused, or it is accepted
 
@@ -41,15 +39,7 @@ run_cases (suc m) job budget l P refused made = refused m
 
 -- ---- the workspace of an accepted Load
 
--- the loaded words
-abbrev pub first : Load → List ℤ
-first l = loaded_words l.bytes l.lent
-
 module _ (l : Load) where
-  pub start_is : start l ≡ record { workspace = first l; job = loaded_job; granted = 0 }
-  unfolding start load_of load_by
-  start_is = rw l.accepted
-
   lent-room : 512 ≤ length l.lent
   lent-room = (load-accepted l.bytes l.lent l.accepted).room
 

@@ -23,7 +23,8 @@ use Rattle.integers.specs.Matrix.{Matrix}
 use Rattle.workspace.proofs.Products.{pair, pair_norm, GivensStep}
 use Rattle.accuracy.specs.Factorization.{gram}
 use Rattle.accuracy.specs.Lengths.{squared_length}
-use Rattle.schedule.proofs.Clear.{elsewhere, apart, all_apart, cleared, raised, fits, done, done_none, done_next, next_fits, rotation_shape, diagonal_raised, below_cleared}
+use Rattle.schedule.proofs.Clear.{elsewhere, apart, all_apart, cleared, raised, fits, done, done_none, done_next, next_fits, rotation_shape}
+use Rattle.schedule.proofs.Diagonal.{diagonal_raised, below_cleared}
 
 -- ---- a column's squared length
 

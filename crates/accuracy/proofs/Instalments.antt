@@ -13,8 +13,10 @@ use Rattle.engine.proofs.Accepted.{run_passes}
 use Rattle.accuracy.specs.Demand3.{Call, run, fetch, State, Accepted, InStep, after, Load, start, EachInStep}
 use Rattle.accuracy.specs.Instalments.{next_run, next_fetch, instalments, after_instalments, instalment_calls, InstalmentsPossible, RefusedAnywhere}
 use Rattle.accuracy.proofs.WorkspaceAfter.{after-length, made_le}
-use Rattle.accuracy.proofs.Demand3.{first, start_is, room, Standing, standing-start, standing-next, fetch_iff}
-use Rattle.accuracy.proofs.Possible.{Stepping, refused-stays}
+use Rattle.accuracy.proofs.Start.{first, start_is}
+use Rattle.accuracy.proofs.Demand3.{room, Standing, standing-start, standing-next, fetch_iff}
+use Rattle.accuracy.proofs.Refused.{refused-stays}
+use Rattle.accuracy.proofs.Possible.{Stepping}
 
 -- ---- Runs in step
 

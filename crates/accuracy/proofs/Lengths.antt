@@ -17,7 +17,8 @@ use Rattle.accuracy.specs.Factorization.{Factorization}
 use Rattle.accuracy.specs.Demand3.{Load, workspace_after}
 use Rattle.accuracy.specs.Lengths.{squared_length, Lengths, LengthsKept}
 use Rattle.accuracy.proofs.Gram.{gram-length}
-use Rattle.accuracy.proofs.Demand3.{first, done}
+use Rattle.accuracy.proofs.Start.{first}
+use Rattle.accuracy.proofs.Demand3.{done}
 
 module _ (a r q : Matrix) (f : Factorization a r q) where
   -- 2^13 times the length of the input's column j, squared

@@ -4,9 +4,13 @@ pub mod Accurate
 pub mod WorkspaceAfter
 pub mod Loading
 pub mod Finished
+pub mod Start
 pub mod Demand3
 pub mod Lengths
 pub mod Antennas
+pub mod Refused
+pub mod Stray
 pub mod Possible
+pub mod Mixed
 pub mod WholeDemand3
 pub mod Instalments

@@ -16,30 +16,19 @@ use Rattle.engine.specs.Load.{load_refusal_of}
 use Rattle.engine.specs.Job.{loaded_job}
 use Rattle.engine.specs.Run.{RunOutcome, next_job, run_done, run_by, run_of}
 use Rattle.engine.specs.Whole.{whole_refusal_of}
-use Rattle.engine.proofs.Accepted.{load-accepted, whole-passes, run_accepted, run_passes, fetch_accepted}
-use Rattle.accuracy.specs.Demand3.{loaded, other, Call, run, fetch, State, words_of, reply, refusal, Accepted, InStep, moved, after, Load, start, EachInStep}
+use Rattle.engine.proofs.Accepted.{load-accepted, whole-passes, run_passes}
+use Rattle.accuracy.specs.Demand3.{Call, run, fetch, State, reply, Accepted, InStep, moved, after, Load, start, EachInStep}
 use Rattle.accuracy.specs.WholeDemand3.{whole_run, whole_fetch}
-use Rattle.accuracy.proofs.Demand3.{run_cases, left_same, first, start_is, room, Standing, standing-start, standing-next, fetch_iff}
-
--- ---- a refused call changes nothing
-
-pub refused-stays : (s : State) (c : Call) → (Accepted s c → ⊥) → after s c ≡ s
-unfolding run_of
-refused-stays s (fetch f) n = refl
-refused-stays s (run r) n =
-    run_cases (refusal s (run r)) r.job r.budget (words_of s r.lent) (λ k o. (k ≡ 0 → ⊥) → moved s r o ≡ s)
-    (λ m q i. record { workspace = left_same s r.lent i; job = s.job; granted = s.granted }) (λ q. absurd (q refl)) n
+use Rattle.accuracy.proofs.Start.{first, start_is}
+use Rattle.accuracy.proofs.Demand3.{room, Standing, standing-start, standing-next, fetch_iff}
+use Rattle.accuracy.proofs.Refused.{refused-stays}
+use Rattle.accuracy.proofs.Stray.{AllRefused}
 
 -- ---- refused calls among others
 
 -- the premise on a call
 abbrev pub Stepping : State → Call → Type 0
 Stepping s c = Accepted s c → InStep s c
-
--- each call of the list is refused in the state s
-unfoldable pub AllRefused : State → List Call → Type 0
-AllRefused s [] = Unit {0}
-AllRefused s (c ∷ calls) = (Accepted s c → ⊥) × AllRefused s calls
 
 idle : (s : State) (calls : List Call) → AllRefused s calls → Idle after s calls
 unfolding AllRefused Idle
@@ -114,49 +103,9 @@ possible l a b c buffer ra rb rc space = record {
     there : after_all after (start l) (a ++ run whole_run ∷ b) ≡ ended l
     there = idle_after after (start l) a (run whole_run ∷ b) (idle (start l) a ra) ∙ ap (after_all after (ended l)) (sym (append-nil b)) ∙ idle_after after (ended l) b [] (idle (ended l) b rb)
 
--- the two alone: what an accepted Whole does
-pub alone : (l : Load) (buffer : List ℕ) → 2049 ≤ length buffer → Possible l [] [] [] buffer
-unfolding AllRefused
-alone l buffer space = possible l [] [] [] buffer tt tt tt space
-
 -- and Whole accepts it, with the same buffer
 pub whole_possible : (l : Load) (buffer : List ℕ) → 2049 ≤ length buffer → whole_refusal_of l.bytes l.lent buffer ≡ 0
 whole_possible l buffer space = whole-passes l.bytes l.lent buffer (record { load = load-accepted l.bytes l.lent l.accepted; space = space })
-
--- ---- refused calls: a Run past the last turn, a Run with more turns made than its turn number, a Run on a short workspace, a Fetch before the last turn,
--- a Fetch with more made than its turn number, a Fetch with a short buffer
-
-unfoldable pub stray : List Call
-stray =
-    run (record { job = record { turn = 121; made = 0 }; budget = 7; lent = loaded })
-    ∷ run (record { job = record { turn = 5; made = 6 }; budget = 7; lent = loaded })
-    ∷ run (record { job = loaded_job; budget = 120; lent = other [] })
-    ∷ fetch (record { job = record { turn = 119; made = 119 }; lent = loaded; buffer = replicate 2049 0 })
-    ∷ fetch (record { job = record { turn = 120; made = 121 }; lent = loaded; buffer = replicate 2049 0 })
-    ∷ fetch (record { job = record { turn = 120; made = 120 }; lent = loaded; buffer = [] })
-    ∷ []
-
-stray_refused : (s : State) → AllRefused s stray
-unfolding AllRefused stray
-stray_refused s = (
-  (λ z. omega (arith, (run_accepted (record { turn = 121; made = 0 }) s.workspace z).possible.turn)),
-  (
-    (λ z. omega (arith, (run_accepted (record { turn = 5; made = 6 }) s.workspace z).possible.made)),
-    (
-      (λ z. omega (arith, (run_accepted loaded_job [] z).room)),
-      (
-        (λ z. omega (arith, (fetch_accepted (record { turn = 119; made = 119 }) s.workspace (replicate 2049 0) z).last)),
-        (
-          (λ z. omega (arith, (fetch_accepted (record { turn = 120; made = 121 }) s.workspace (replicate 2049 0) z).made)),
-          ((λ z. omega (arith, (fetch_accepted (record { turn = 120; made = 120 }) s.workspace [] z).space)), tt),
-        ),
-      ),
-    ),
-  ),
-)
-
-pub mixed : (l : Load) (buffer : List ℕ) → 2049 ≤ length buffer → Possible l stray stray stray buffer
-mixed l buffer space = possible l stray stray stray buffer (stray_refused (start l)) (stray_refused (ended l)) (stray_refused (ended l)) space
 
 -- ---- a record is accepted: the first antenna is heard, by 17, and all else is 0
 

@@ -18,8 +18,10 @@ use Rattle.engine.proofs.Accepted.{load-passes, whole-accepted}
 use Rattle.accuracy.specs.Factorization.{Factorization}
 use Rattle.accuracy.specs.Demand3.{run, fetch, State, fetched, Load, start, reply, Kept}
 use Rattle.accuracy.specs.WholeDemand3.{whole_run, whole_fetch, whole_calls, WholeKept, WholeDemand3}
-use Rattle.accuracy.proofs.Demand3.{first, start_is, fetch_written, demand3}
-use Rattle.accuracy.proofs.Possible.{ended, ended_is, run_done_lem, fetch_in_step, fetch_taken, alone}
+use Rattle.accuracy.proofs.Start.{first, start_is}
+use Rattle.accuracy.proofs.Demand3.{fetch_written, demand3}
+use Rattle.accuracy.proofs.Possible.{ended, ended_is, run_done_lem, fetch_in_step, fetch_taken}
+use Rattle.accuracy.proofs.Mixed.{alone}
 
 module _ (l : Load) (buffer : List ℕ) (space : 2049 ≤ length buffer) (passed : whole_refusal_of l.bytes l.lent buffer ≡ 0) where
   kept : Kept l (whole_calls l buffer)

@@ -6,3 +6,4 @@ pub mod WrittenMatrix
 pub mod Hermitian
 pub mod HeardByPower
 pub mod Possible
+pub mod Written

@@ -1,19 +1,16 @@
 -- The premises can be met: lists of any number of snapshots of the loudest samples, among them such as are refused; and sums handed in at the end of their
 -- range. Assumes nothing.
-use mathlib.Core.Path.{◌≡◌, refl, ◌∙◌}
+use mathlib.Core.Path.{◌≡◌, refl}
 use mathlib.Core.List.{List}
-use Prim.Native.Nat.{ℕ, zero, suc, ◌<◌}
-use native.Mathlib.Omega.{arith}
-use borrow.Author.Tests.{ne_eqb}
+use Prim.Native.Nat.{ℕ, zero, suc}
 use lib.Dec.{lit<}
 use lib.IntN.{pos, negsuc}
-use lib.ListN.{replicate, length-replicate}
+use lib.ListN.{replicate}
 use Rattle.lists.specs.Lists.{all_below}
 use Rattle.covariance.specs.declared.Sample.{Sample}
 use Rattle.covariance.specs.Sums.{sample_of, words_in_range_of, sums_test}
 use Rattle.covariance.specs.WriteMatrix.{write_refusal_of, write_by, write_of}
-use Rattle.covariance_laws.specs.Snapshots.{Parts16, sums_after}
-use Rattle.covariance_laws.proofs.Accumulated.{accumulated}
+use Rattle.covariance_laws.specs.Snapshots.{Parts16}
 use Rattle.covariance_laws.proofs.Terms.{Sample16}
 
 -- eight samples of -32,768 in both parts
@@ -32,12 +29,6 @@ pub parts_possible : (n : ℕ) → Parts16 (replicate n loudest)
 parts_possible zero k i = silent16
 parts_possible (suc n) zero i = loud16 8 i
 parts_possible (suc n) (suc k) i = parts_possible n k i
-
--- any number of them but none is written
-pub write_possible : (n : ℕ) → 0 < n → (write_of (sums_after (replicate n loudest)) (replicate 257 0)).number ≡ 0
-write_possible n h =
-    (accumulated (replicate n loudest) (parts_possible n)).write (replicate 257 0)
-    ∙ rw (length-replicate n loudest, ne_eqb n 0 (λ e. omega arith))
 
 -- 4,096 snapshots' sums of -2^31 times the count
 pub handed_in_possible : (write_of (record { count = 4096; words = replicate 128 (negsuc 8796093022207) }) (replicate 257 0)).number ≡ 0

@@ -6,3 +6,4 @@ pub mod Lines
 pub mod Distinct
 pub mod LongInput
 pub mod Possible
+pub mod Same

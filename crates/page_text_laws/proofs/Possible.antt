@@ -1,6 +1,6 @@
 -- The premises of the theorems can be met: by the least word and the greatest, by two accepted records whose bytes are all below 256 and which have the same
 -- page and not the same Q, by two refused ones that have the same page, and by inputs that are too long, of either kind. Assumes nothing.
-use mathlib.Core.Path.{◌≡◌, refl, sym, ◌∙◌}
+use mathlib.Core.Path.{◌≡◌, refl}
 use mathlib.Core.List.{List, [], ◌∷◌, ◌++◌}
 use Prim.Native.Nat.{ℕ, ◌≤◌}
 use native.Mathlib.Omega.{arith}
@@ -9,27 +9,22 @@ use lib.IntN.{pos, negsuc}
 use lib.ListN.{length, get_or, replicate}
 use mir.Syntax.{w32}
 use mir.Val.{SFits}
-use Rattle.lists.specs.Lists.{all_below, joined}
+use Rattle.lists.specs.Lists.{all_below}
 use Rattle.words.specs.Words.{Bytes}
 use Rattle.words.proofs.Bytes.{are_bytes, bytes_of}
 use Rattle.refusals.specs.Refusals.{header_test}
 use Rattle.result_record.specs.ResultRecord.{record_word, record_r, record_q, is_finished_at, is_finished, record_refusal_of}
-use Rattle.page_text.specs.Decimal.{digits, decimal, field}
-use Rattle.page_text.specs.Page.{line_of, page_of_r, page_of}
-use Rattle.page_text.proofs.Page.{page_accepted}
-use Rattle.page_text_laws.specs.Distinct.{SameR}
 use Rattle.page_text_laws.specs.Printed.{five_words}
-use Rattle.page_text_laws.proofs.Distinct.{distinct}
 
 pub words_possible : SFits w32 (negsuc 2147483647) × SFits w32 (pos 2147483647)
 words_possible = (record { sfits = lit< tt }, record { sfits = lit< tt })
 
 -- ---- accepted records
 
-abbrev one_record : List ℕ
+abbrev pub one_record : List ℕ
 one_record = five_words (replicate 1024 0)
 
-abbrev other_record : List ℕ
+abbrev pub other_record : List ℕ
 other_record = five_words (replicate 1023 0 ++ 1 ∷ [])
 
 pub bytes_possible : Bytes one_record × Bytes other_record
@@ -40,20 +35,6 @@ pub accepted_possible : (record_refusal_of one_record ≡ 0) × (record_refusal_
 unfolding five_words header_test record_word record_r is_finished_at is_finished all_below record_refusal_of
 accepted_possible = (refl, refl)
 
-same : page_of_r (record_r one_record) ≡ page_of_r (record_r other_record)
-unfolding five_words digits decimal field joined line_of page_of_r record_word record_r
-same = refl
-
-same_page : page_of one_record ≡ page_of other_record
-same_page = page_accepted one_record accepted_possible.0 ∙ same ∙ sym (page_accepted other_record accepted_possible.1)
-
-same_r : SameR one_record other_record
-same_r =
-    distinct.by_r one_record other_record bytes_possible.0 bytes_possible.1 accepted_possible.0 accepted_possible.1 same_page
-
-pub same_possible : (page_of one_record ≡ page_of other_record) × SameR one_record other_record
-same_possible = (same_page, same_r)
-
 pub other_q_possible : (record_q one_record 15 15 ≡ pos 0) × (record_q other_record 15 15 ≡ pos 1)
 unfolding five_words record_word record_q
 other_q_possible = (refl, refl)
@@ -63,11 +44,6 @@ other_q_possible = (refl, refl)
 pub refused_possible : (record_refusal_of [] ≡ 1) × (record_refusal_of (1 ∷ replicate 2048 0) ≡ 1)
 unfolding header_test record_refusal_of
 refused_possible = (refl, refl)
-
-pub same_line_possible : page_of [] ≡ page_of (1 ∷ replicate 2048 0)
-same_line_possible =
-    let e = refused_possible.0 in
-    distinct.number_alone_lem [] (1 ∷ replicate 2048 0) (λ z. omega (arith, z, e)) (e ∙ sym refused_possible.1)
 
 pub other_kind_possible : let input : List ℕ = 1 ∷ replicate 2049 0 in (2050 ≤ length input) × (get_or input 0 0 ≡ 2 → ⊥)
 other_kind_possible = (lit< tt, λ e. omega (arith, e))

@@ -2,15 +2,13 @@
 -- One claim over the whole order, which antt tests, and a law that carries it to each rotation.
 -- Assumes nothing.
 use mathlib.Core.Path.{◌≡◌, refl, sym, subst}
-use mathlib.Core.Logic.{◌⊎◌, inl, inr}
 use mathlib.Core.List.{List, [], ◌∷◌}
 use Prim.Native.Nat.{ℕ, zero, suc, ◌≤◌, ◌<◌}
 use native.Mathlib.Nat.{le_of_suc-le-suc, not-suc-le-zero}
-use native.Mathlib.Omega.{arith}
 use lib.ListN.{length, get_or}
 use Rattle.schedule.specs.declared.Rotation.{Rotation}
 use Rattle.schedule.specs.Schedule.{stage_rotations, survivors, stages, up_from, column_stages, stages_rotations, columns_rotations, schedule, no_rotation, rotation_at_of}
-use Rattle.integers.proofs.Claim.{Claim, always, never, less, same, other, both, either, Means, sound, each, each_at}
+use Rattle.integers.proofs.Claim.{Claim, always, never, less, same, other, both, either, Means, sound, each}
 use Rattle.schedule.specs.Pairing.{rotations_120}
 
 -- ---- the claims
@@ -53,7 +51,7 @@ all_fit ds (t ∷ ts) = both (fits ds t) (all_fit (t ∷ ds) ts)
 -- ---- the law
 
 -- the rotations made, the last one first, when k rotations of ts are made after ds
-before : List Rotation → List Rotation → ℕ → List Rotation
+unfoldable pub before : List Rotation → List Rotation → ℕ → List Rotation
 before ds ts zero = ds
 before ds [] (suc k) = ds
 before ds (t ∷ ts) (suc k) = before (t ∷ ds) ts k
@@ -71,7 +69,7 @@ before-next ds (t ∷ ts) zero h = refl
 before-next ds (t ∷ ts) (suc k) h = before-next (t ∷ ds) ts k (le_of_suc-le-suc h)
 
 -- rotations 0 to k - 1 of the schedule, the last one first
-pub done : ℕ → List Rotation
+unfoldable pub done : ℕ → List Rotation
 done k = before [] schedule k
 
 pub done_none : done 0 ≡ []
@@ -95,32 +93,3 @@ next_fits k h = fits_from [] schedule order_fits k (in_order h)
 
 pub rotation_shape : (k : ℕ) → k < 120 → ((rotation_at_of k).column ≤ (rotation_at_of k).upper) × ((rotation_at_of k).upper < (rotation_at_of k).lower) × ((rotation_at_of k).lower < 16)
 rotation_shape k h = let m = (next_fits k h).0.0 in (le_of_suc-le-suc m.0, m.1.0, m.1.1)
-
--- ---- after the last rotation: below the diagonal all is cleared, and on it each row was an upper one
-
--- row r of column c is on the diagonal, above it, or cleared
-clear_below : List Rotation → ℕ → ℕ → Claim
-clear_below ds c r = either (less r (suc c)) (cleared ds r c)
-
-column : List Rotation → ℕ → Claim
-column ds c = both (raised ds c c) (each 16 (clear_below ds c))
-
--- that is so of the columns 0 to 14
-abbrev columns_cleared : Claim
-columns_cleared = each 15 (column (done 120))
-
-order-finished : Means columns_cleared
-unfolding each column clear_below cleared raised done before schedule columns_rotations stages_rotations column_stages stages survivors up_from stage_rotations
-order-finished = sound columns_cleared tt
-
-pub diagonal_raised : (j : ℕ) → j < 15 → Means (raised (done 120) j j)
-unfolding column
-diagonal_raised j h = (each_at 15 (column (done 120)) order-finished j h).0
-
-pub below_cleared : (r c : ℕ) → c < r → r < 16 → Means (cleared (done 120) r c)
-unfolding column clear_below
-below_cleared r c h k = pick (each_at 16 (clear_below (done 120) c) (each_at 15 (column (done 120)) order-finished c (omega arith)).1 r k)
-  where
-    pick : (r < suc c) ⊎ Means (cleared (done 120) r c) → Means (cleared (done 120) r c)
-    pick (inl q) = absurd (omega arith)
-    pick (inr q) = q

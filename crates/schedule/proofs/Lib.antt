@@ -2,3 +2,5 @@
 pub mod Flat
 pub mod Pairing
 pub mod Clear
+pub mod Finished
+pub mod Diagonal

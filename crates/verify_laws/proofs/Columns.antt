@@ -3,14 +3,12 @@
 -- right is off by 2^44, which is the limit. Assumes nothing.
 use mathlib.Core.Path.{◌≡◌, refl, ap, subst}
 use mathlib.Core.Bool.{Bool, true, false, ◌&&◌, cond}
-use mathlib.Core.List.{List}
 use Prim.Native.Nat.{ℕ, ◌/◌, ◌%◌, ◌^◌, ◌<◌}
 use native.Mathlib.Omega.{arith}
 use lib.Dec.{eqb, lit<}
 use lib.IntN.{ℤ, pos, nat_abs, ◌-ℤ◌, ◌*ℤ◌}
 use mir.Syntax.{w32}
 use mir.Val.{SFits}
-use Rattle.integers.specs.Matrix.{Matrix}
 use Rattle.integers.specs.Within.{Within, is_within}
 use Rattle.integers.specs.Sum.{sum}
 use Rattle.integers.proofs.Sum.{sum_equal}
@@ -25,16 +23,7 @@ use Rattle.verify_laws.specs.Answers.{Columns}
 use Rattle.verify_laws.specs.Columns.{YesWithoutColumns}
 use Rattle.verify_laws.proofs.Answers.{factors_if}
 use Rattle.verify_laws.proofs.Written.{same_r, written_yes}
-
-unfoldable input : List ℕ
-input = matrix_record_of (λ e part. cond (eqb part 0 && eqb (e % 8) 7) (pos 32767) (pos 0))
-
--- 32,769 steps of 2^13
-unfoldable r : Matrix
-r i j = cond (eqb (j % 8) 7 && eqb (i / 8) (j / 8)) (pos 268443648) (pos 0)
-
-unfoldable q : Matrix
-q i j = cond (eqb i j) (pos (2 ^ 30)) (pos 0)
+use Rattle.verify_laws.proofs.Deviating.{input, r, q}
 
 r_fits : (i j : ℕ) → i < 16 → j < 16 → SFits w32 (r i j)
 unfolding r

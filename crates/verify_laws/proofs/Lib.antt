@@ -2,4 +2,5 @@
 pub mod Answers
 pub mod Fitting
 pub mod Written
+pub mod Deviating
 pub mod Columns
