@@ -94,6 +94,7 @@ check-format:
 check-tools:
 	sh tools/test-prove.sh
 	sh tools/test-check-edits.sh
+	sh tools/test-try-edits.sh
 	sh tools/test-need.sh
 	sh tools/test-make.sh
 
