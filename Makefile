@@ -92,7 +92,9 @@ check-format:
 	cargo clippy --quiet --release --workspace --all-targets -- -D warnings
 
 check-tools:
+	sh tools/test-prove.sh
 	sh tools/test-check-edits.sh
+	sh tools/test-try-edits.sh
 	sh tools/test-need.sh
 	sh tools/test-make.sh
 
