@@ -51,12 +51,12 @@ check-tools check-c: | need-c++
 run: need-cargo $(TOOLS)/record build/qr build/page
 	@sh examples/run.sh build/qr build/page $(TOOLS)/record build/result.bin
 
-# What takes seconds comes first. The proofs are made once, and what is tested after them is built from what they left. Nothing is removed ahead:
+# The proofs come first, of the checkout as it is, and once; what is tested after them is built from what they left. Nothing is removed ahead:
 # rt trusts nothing in crates/*/out, `prove` makes the archive and the programs anew whatever stands in build/, cargo goes by its own account of what
 # it built from what, and the C programs are compiled each time. The last line is the proofs' verdict again, N passed, 0 failed: it is printed only
 # when nothing before it failed, and when docs/PINS.md has the same one. That page lists every crate, and counts the edit files of each, so that none
 # goes unseen.
-test: check-docs check-format check-tools prove check-edits check-face check-archive check-c check-rust check-examples
+test: need-cargo prove check-docs check-format check-tools check-edits check-face check-archive check-c check-rust check-examples
 	@verdict="$$(grep '^[0-9]* passed, 0 failed$$' build/ci.log)" || exit 1; \
 	if ! grep -qF "last line is \`$$verdict\`" docs/PINS.md; then \
 	    echo "build/ci.log ends with \"$$verdict\", and docs/PINS.md names another last line: rt ci left a crate or an edit out, or took one more" >&2; \
