@@ -202,27 +202,75 @@ function function_of(place) {
 }
 
 # the function of src/ that stands at a place PATH:LINE:COLUMN: an edit leaves each line where it is. A place may be that of an attribute above it
-function function_at(place,   parts, path, line, at, of, found, module) {
+function function_at(place,   parts, path, line, at, of, found, owner) {
     split(place, parts, ":")
     path = "crates/" crate "/" parts[1]
-    module = parts[1]
-    sub(/^src\//, "", module)
-    sub(/\.rt$/, "", module)
-    gsub(/\//, "::", module)
-    module = module == "lib" || module == "main" ? crate : crate "::" module
     for (at = 1; (getline line < path) > 0; at++) {
         if (line ~ /^}/) of = ""
-        if (line ~ /^impl /) { of = line; sub(/^impl /, "", of); sub(/[^A-Za-z0-9_].*/, "", of) }
+        if (line ~ /^impl[ <]/) of = block_of(line)
         if (line ~ /^ *(pub(\([a-z]+\))? )?(extern "C" )?fn [a-z]/) {
             sub(/^.*fn /, "", line)
             sub(/[^a-z0-9_].*/, "", line)
-            found = module (of == "" ? "" : "::" of) "::" line
+            found = line
+            owner = of
             above = 0
         } else if (at == parts[2] && line ~ /^ *#\[/) above = 1
         if (at >= parts[2] && !above) break
     }
     close(path)
     above = 0
+    return module_of(owner == "" ? path : type_path(owner, path)) "::" (owner == "" ? "" : owner "::") found
+}
+
+# a file of src/ as the module that it is
+function module_of(path) {
+    sub(/^crates\/[^\/]*\/src\//, "", path)
+    sub(/\.rt$/, "", path)
+    gsub(/\//, "::", path)
+    return path == "lib" || path == "main" ? crate : crate "::" path
+}
+
+# the file of src/ in which a type stands, by which a check names its functions wherever they stand; for what is no type that of the functions
+function type_path(of, path,   command) {
+    command = "grep -rlE \"^(pub(\\([a-z]+\\))? )?(struct|enum) " of "[^A-Za-z0-9_]\" crates/" crate "/src"
+    command | getline path
+    close(command)
+    return path
+}
+
+# what a check names the functions of an impl by: Word of `impl Word {`, WordLane of `impl Lane for Word {`. Its parameters are left out
+function block_of(line,   at, open, letter) {
+    sub(/ *\{$/, "", line)
+    sub(/^impl/, "", line)
+    for (at = 1; at <= length(line); at++) {
+        letter = substr(line, at, 1)
+        open += (letter == "<") - (letter == ">")
+        if (letter == " " && !open) break
+    }
+    line = substr(line, at + 1)
+    at = index(line, " for ")
+    if (at) return type_name(substr(line, at + 5)) type_name(substr(line, 1, at - 1))
+    sub(/[^A-Za-z0-9_].*/, "", line)
+    return line
+}
+
+# a type as a check has it: ResultUsizeRefusal of Result<usize, a::Refusal>, ArrayU8aSIZE of [u8; a::SIZE], whose length keeps all of its path.
+# A lifetime and a parameter, which is one capital letter, are left out
+function type_name(text,   pieces, words, n, k, j, size, found) {
+    gsub(/\[ */, "Array ", text)
+    n = split(text, pieces, /; */)
+    for (k = 1; k <= n; k++) {
+        size = split(pieces[k], words, /[^A-Za-z0-9_:\047]+/)
+        for (j = 1; j <= size; j++) {
+            if (words[j] ~ /^\047|^[A-Z]$/) continue
+            if (k == 1 || j > 1) {
+                sub(/.*::/, "", words[j])
+                words[j] = toupper(substr(words[j], 1, 1)) substr(words[j], 2)
+            }
+            gsub(/[^A-Za-z0-9]/, "", words[j])
+            found = found words[j]
+        }
+    }
     return found
 }
 

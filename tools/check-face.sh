@@ -24,9 +24,9 @@ symbols() {
     nm -g --defined-only "$1" | awk 'NF == 3 { printf "symbol %s\t\n", $3 }'
 }
 
-# numbers: the refusal numbers that Rattle code on standard input names; 0 is none.
+# numbers: the numbers that Rattle code on standard input gives the refusals.
 numbers() {
-    awk '/^ *pub const [A-Z0-9_]+: u8 = [1-9][0-9]*;/ { sub(/^[^=]*= /, ""); sub(/;.*/, ""); printf "number %s\t\n", $0 }'
+    awk '/^ *Refusal::[A-Za-z]+ => [1-9][0-9]*,/ { sub(/^[^>]*> /, ""); sub(/,.*/, ""); printf "number %s\t\n", $0 }'
 }
 
 # roles: the roles and their numbers, in the Rust enum or the Rattle constants on standard input.

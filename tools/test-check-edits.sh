@@ -15,8 +15,11 @@ failed=0
 edit() {
     mkdir -p crates/a/must-fail crates/a/src build
     cat >"crates/a/must-fail/$1.edit"
-    printf 'pub fn f() -> u8\n    ensures { 1 }\n{\n    2\n}\n\n#[tactic(auto)]\nfn h() -> u8 {\n    3\n}\n' >crates/a/src/lib.rt
+    printf 'pub fn f() -> u8\n    ensures { 1 }\n{\n    2\n}\n\n#[tactic(auto)]\nfn h() -> u8 {\n    3\n}\n\npub struct Sums {\n    n: u8,\n}\n' >crates/a/src/lib.rt
     printf 'impl Word {\n    pub fn new() -> u8 {\n        2\n    }\n}\n\npub(crate) fn f() -> u8 {\n    2\n}\n' >crates/a/src/m.rt
+    for block in 'impl Lane for Word' 'impl<W: Lane> Rows<W>' 'impl<const N: usize> TryFrom<a::Rows<N, u32>> for [u8; a_b::SIZE]' 'impl Sums'; do
+        printf '\n%s {\n    fn g(w: u8) -> u8 {\n        w\n    }\n}\n' "$block" >>crates/a/src/m.rt
+    done
 }
 
 # told LABEL TEXT: what rt ci says of an edit file.
@@ -60,8 +63,9 @@ program one 'fn: f' | edit one
 told one "$refused: $(open src/lib.rt:4:5 returns)"
 expect 0 'edits: 1 wrong programs in 1 files, each refused, 1 of these first where a program of theirs says so'
 
-# the same by its first line, in a module, in an impl, and by an attribute above it
-for pair in 'f src/lib.rt:1:1' 'a::m::f src/m.rt:7:1' 'm::Word::new src/m.rt:3:9' 'h src/lib.rt:7:1' 'a::h src/lib.rt:9:5'; do
+# the same by its first line, in a module, in an impl, and by an attribute above it; then in impls of traits, with parameters, and of another module's type
+for pair in 'f src/lib.rt:1:1' 'a::m::f src/m.rt:7:1' 'm::Word::new src/m.rt:3:9' 'h src/lib.rt:7:1' 'a::h src/lib.rt:9:5' \
+    'm::WordLane::g src/m.rt:13:9' 'm::Rows::g src/m.rt:18:5' 'm::ArrayU8abSIZETryFromRowsU32::g src/m.rt:25:9' 'Sums::g src/m.rt:31:9'; do
     program one "fn: ${pair% *}" | edit one
     told one "$refused: $(open "${pair#* }" returns)"
     expect 0 'each refused, 1 of these first'

@@ -1,7 +1,7 @@
 // A caller of all calls, proved from their contracts alone: a factorization in two instalments, a stored result fetched again, a copy of a result,
 // the matrix of two snapshots, the weights of a matrix, the verdict on a result just made, a log swept and added to, a sector served at a desk with the
 // next matrix early, and a round begun there. Each answers the replies of all calls that it makes, so that whoever calls it sees the first refusal. The
-// words here are document 01's own.
+// words here are those of the headers in include/. Replies are numbers with values beside them and no `Result`, since these are the calls as C has them.
 
 #![tactic(auto)]
 

@@ -4,15 +4,12 @@ use native.Mathlib.Nat.{le_refl, suc-add, zero-add}
 use native.Mathlib.Omega.{arith}
 use mathlib.Core.Path.{◌≡◌, refl, ap}
 use mathlib.Core.Bool.{Bool, true, false}
-use lib.IntN.{ℤ, pos}
-use lib.Signed.{mag, shr_z, non_neg, le_z}
+use lib.Signed.{shr_z, non_neg}
 use lib.Pow.{shr_mono}
-use mir.Syntax.{w64}
-use mir.Val.{to_z, of_z}
 use Rattle.cordic.specs.declared.Pair.{Pair}
 use Rattle.cordic.specs.Range.{InRange}
 use Rattle.cordic.specs.MicroRotation.{micro_rotation_of, micro_rotations, leading, sign}
-use Rattle.integers.proofs.Magnitude.{mag-add, mag-sub, mag_shr_is, read_back, nonneg_test}
+use Rattle.integers.proofs.Magnitude.{mag-add, mag-sub, mag_shr_is}
 
 -- ---- how far the words grow
 
@@ -71,7 +68,3 @@ unfolding micro_rotations
 micro_rotations_same s t zero p h = refl
 micro_rotations_same s t (suc n) p h =
     rw (h n (le_refl (suc n)), micro_rotations_same s t n p (λ i k. h i (omega arith)))
-
--- the machine's test of a v that fits
-pub sign_test : (z : ℤ) → mag z < 2 ^ 63 → le_z (pos 0) (to_z w64 (of_z w64 z)) ≡ non_neg z
-sign_test z h = rw (read_back w64 h) (nonneg_test z)

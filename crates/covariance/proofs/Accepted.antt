@@ -4,13 +4,13 @@ use mathlib.Core.Bool.{true}
 use mathlib.Core.List.{List}
 use Prim.Native.Nat.{ℕ, zero, suc, ◌*◌, ◌^◌, ◌<◌, ◌≤◌}
 use native.Mathlib.Omega.{arith}
-use borrow.Author.Tests.{leb-true, leb-false, ltb-false, eqb-false, le-leb, lt-leb, le-ltb, ne_eqb}
+use borrow.Author.Tests.{leb-true, leb-false, ltb-false, eqb-false, le-leb, lt-leb, le-ltb}
 use lib.Dec.{leb, ltb, eqb}
 use lib.IntN.{ℤ, nat_abs}
 use lib.ListN.{length}
 use Rattle.lists.proofs.Passing.{all_at, all_of}
 use Rattle.refusals.specs.Refusals.{fails_if}
-use Rattle.refusals.proofs.Refusals.{first-none, if_passed, unless_passed, buffer_passed, buffer-passes}
+use Rattle.refusals.proofs.Refusals.{first-none, if_passed, unless_passed, buffer_passed}
 use Rattle.covariance.specs.declared.Sums.{Sums}
 use Rattle.covariance.specs.Sums.{sum_at, in_range, words_in_range_of, sums_test}
 use Rattle.covariance.specs.AddSnapshot.{add_refusal_of}
@@ -80,11 +80,6 @@ write-accepted count words buffer h =
     positive : (n : ℕ) → (n ≡ 0 → ⊥) → 0 < n
     positive zero f = absurd (f refl)
     positive (suc n) f = omega arith
-
-pub write-passes : (count : ℕ) (words : List ℤ) (buffer : List ℕ) → 0 < count → count ≤ 4096 → Near count words → 257 ≤ length buffer → write_refusal_of count words buffer ≡ 0
-unfolding write_refusal_of
-write-passes count words buffer some few h space =
-    simp (sums_pass count words few h, ne_eqb count 0 (λ e. omega arith), buffer-passes 257 buffer space)
 
 -- the number by which an outcome is given is the number it has
 pub write_by-number : (n : ℕ) (s : Sums) (buffer : List ℕ) → (write_by n s buffer).number ≡ n

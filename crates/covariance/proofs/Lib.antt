@@ -1,6 +1,5 @@
 -- Laws that several proofs cite.
 pub mod Machine
-pub mod Samples
 pub mod Ranges
 pub mod Normalized
 pub mod Elements

@@ -3,6 +3,7 @@ use mathlib.Core.Path.{◌≡◌, sym, ap, ◌∙◌}
 use mathlib.Core.Bool.{Bool}
 use Prim.Native.Nat.{ℕ, ◌+◌, ◌^◌, ◌<◌}
 use native.Mathlib.Omega.{arith}
+use lib.Dec.{lit<}
 use lib.IntN.{ℤ, ◌+ℤ◌, ◌-ℤ◌, ◌*ℤ◌}
 use lib.Signed.{mag}
 use mir.Syntax.{w16, w64}
@@ -29,6 +30,9 @@ short f = fits_within f
 
 pub short_product : {x y : ℤ} → SFits w16 x → SFits w16 y → Within (x *ℤ y) (2 ^ 30)
 short_product f g = within-* (short f) (short g)
+
+pub read_short : {z : ℤ} → SFits w16 z → read z ≡ z
+read_short f = back (short f) (lit< tt)
 
 module _ {p q : ℤ} {m n : ℕ} (hp : Within p m) (hq : Within q n) (h : m + n < 2 ^ 63) where
   pub plus_fits : SFits w64 (read p +ℤ read q)

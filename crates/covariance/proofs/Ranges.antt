@@ -1,19 +1,16 @@
--- The test of a sum's range, as the machine makes it on each side. Assumes nothing.
-use mathlib.Core.Path.{◌≡◌, sym, subst, ◌∙◌}
-use mathlib.Core.Bool.{true, false}
-use Prim.Native.Nat.{ℕ, zero, suc}
-use native.Mathlib.Omega.{arith}
-use borrow.Author.Tests.{ltb-true, ltb-false, lt-leb, le-leb}
-use lib.Dec.{T, leb, leb-zero, leb-suc-suc}
-use lib.IntN.{ℤ, pos, negsuc, neg_ℤ, nat_abs}
-use lib.Signed.{lt_z, le_z}
+-- What a pass over the sums says of the test of all. Assumes nothing.
+use Rattle.std.proofs.Common.{◌≡◌, refl, sym, ℕ, Bool, true, false, List, ℤ, length, EachIndex, ◌↔◌, IsTrue, arith}
+use Rattle.lists.proofs.Passing.{all_at, all_of}
+use Rattle.covariance.specs.Sums.{sum_at, in_range, words_in_range_of}
 
-pub above : (z : ℤ) (n : ℕ) → lt_z (pos n) z ≡ true → false ≡ leb (nat_abs z) n
-above (pos m) n t = sym (lt-leb m n (ltb-true n m t))
-above (negsuc m) n t = absurd (subst T (sym t) tt)
+-- tests that hold of the same
+both_ways : (a b : Bool) → (a ≡ true → b ≡ true) → (b ≡ true → a ≡ true) → a ≡ b
+both_ways true b f g = sym (f refl)
+both_ways false true f g = g refl
+both_ways false false f g = refl
 
-pub not_above : (z : ℤ) (n : ℕ) → lt_z (pos n) z ≡ false → le_z (neg_ℤ (pos n)) z ≡ leb (nat_abs z) n
-not_above (pos m) zero t = leb-zero m ∙ sym (le-leb m 0 (ltb-false 0 m t))
-not_above (pos m) (suc n) t = sym (le-leb m (suc n) (ltb-false (suc n) m t))
-not_above (negsuc m) zero t = sym (lt-leb (suc m) 0 (omega arith))
-not_above (negsuc m) (suc n) t = sym (leb-suc-suc m n)
+pub decided : (b : Bool) (count : ℕ) (words : List ℤ) → length words ≡ 128 → (IsTrue b ↔ EachIndex words (λ n. in_range count (sum_at words n) ≡ true)) → b ≡ words_in_range_of count words
+unfolding words_in_range_of
+decided b count words e h =
+    both_ways b _ (λ t. all_of (λ n. in_range count (sum_at words n)) 128 (λ n l. h.0 t n (omega arith)))
+    (λ t. h.1 (λ n l. all_at (λ n. in_range count (sum_at words n)) 128 t n (omega arith)))

@@ -1,5 +1,5 @@
 // The covariance of snapshots: what the eight antennas heard at one instant, added up product by product, and the matrix record that the sums give.
-// Each call tests its own input, in the order that document 02 lists, and refuses by the number of the first test that fails.
+// Each call makes its own tests of its input, in the order of their definitions, and refuses by the first that fails.
 
 #![tactic(auto)]
 
@@ -31,12 +31,14 @@ pub struct Sums {
     pub words: [i64; 128],
 }
 
-// No snapshot added.
-pub fn sums_none() -> Sums
-    ensures { result ≡ sums_none_of }
-{
-    Sums {
-        count: 0,
-        words: [0; 128],
+impl Sums {
+    // No snapshot added.
+    pub fn none() -> Self
+        ensures { result ≡ sums_none_of }
+    {
+        Sums {
+            count: 0,
+            words: [0; 128],
+        }
     }
 }

@@ -7,3 +7,4 @@ pub mod Fetch
 pub mod Heard
 pub mod Rounds
 pub mod Shares
+pub mod Replies

@@ -1,57 +1,43 @@
 // Fetch for a sector; once the operator's succeeds, the matrix that waits is loaded in the place of the one that was fetched.
-ghost use Rattle.std.specs.Prelude.{◌≡◌, ◌<◌, ◌≤◌, length};
+ghost use Rattle.std.specs.Prelude.{◌≡◌, ◌≤◌, length};
 ghost use Rattle.workspace.specs.Workspace.{workspace_words};
-ghost use Rattle.desk.specs.Desk.{sector_count, Loaded};
-ghost use Rattle.desk.specs.Fetch.{brings, brought_in, DeskFetchOutcome, desk_fetch_of};
+ghost use Rattle.desk.specs.Desk.{waiting_at, Loaded, loaded};
+ghost use Rattle.desk.specs.Fetch.{DeskFetchOutcome, desk_fetch_of};
+ghost use Rattle.desk.specs.Replies.{desk_reply};
 
-use crate::roles::{admission_refusal, may_fetch, may_operate};
-use crate::sector::{job_at, seated};
-use crate::waiting::{take_waiting, waits_at};
-use crate::{Desk, DeskReply};
+use crate::Desk;
+use crate::roles::Role;
+use crate::sector::Sector;
+use crate::waiting::take_in;
+use refusals::Refusal;
 
-// Whether a Fetch of this role brings one in: the operator's, where one waits.
-fn brings(role: u32, desk: Desk, sector: u32) -> bool
-    requires { sector < sector_count }
-    ensures { result ≡ brings role desk sector }
-{
-    if !may_operate(role) {
-        return false;
+impl Desk {
+    // The matrix that waits is loaded.
+    fn bring_in(&mut self, sector: Sector, area: &mut [i32])
+        requires { workspace_words ≤ length area.old }
+        ensures { record { desk = self.new; area = area.new } ≡ loaded self.old sector (waiting_at self.old sector) area.old }
+    {
+        let heard = take_in(self.waiting(sector), area);
+        self.seat(sector, heard);
     }
-    waits_at(desk, sector)
-}
 
-// After a Fetch that succeeded.
-fn bring_in(role: u32, desk: Desk, sector: u32, area: &mut [i32]) -> Desk
-    requires { (sector < sector_count) × (workspace_words ≤ length area.old) }
-    ensures { record { desk = result; area = area.new } ≡ brought_in (brings role desk sector) desk sector area.old }
-{
-    if !brings(role, desk, sector) {
-        return desk;
-    }
-    let records = desk.records;
-    let heard = take_waiting(records, sector, area);
-    seated(desk, sector, heard)
-}
-
-// Writes the result record of a sector's finished job, and for the operator brings in the matrix that waits; or refuses and changes nothing.
-pub fn fetch(role: u32, desk: Desk, sector: u32, area: &mut [i32], buffer: &mut [u8]) -> DeskReply
-    ensures { record { reply = result; area = area.new; buffer = buffer.new } ≡ desk_fetch_of role desk sector area.old buffer.old }
-{
-    let may = may_fetch(role);
-    let refused = admission_refusal(may, sector);
-    if refused != 0 {
-        return DeskReply {
-            desk,
-            number: refused,
-        };
-    }
-    let number = engine::fetch::fetch(job_at(desk, sector), area, buffer);
-    if number != 0 {
-        return DeskReply { desk, number };
-    }
-    let after = bring_in(role, desk, sector, area);
-    DeskReply {
-        desk: after,
-        number: 0,
+    // Writes the result record of a sector's finished job, and for the operator brings in the matrix that waits; or refuses and changes nothing.
+    #[tactic(auto, unfolding(crate::specs::Fetch::desk_fetch_of, crate::specs::Fetch::desk_fetch_refusal, crate::specs::Fetch::desk_fetch_by), using(crate::proofs::Refused::fetch_refused, refusals::proofs::Outcomes::refused_first, refusals::proofs::Outcomes::passed_first))]
+    pub fn fetch(
+        &mut self,
+        role: u32,
+        sector: u32,
+        area: &mut [i32],
+        buffer: &mut [u8],
+    ) -> Result<(), Refusal>
+        ensures { record { reply = desk_reply self.new result; area = area.new; buffer = buffer.new } ≡ desk_fetch_of role self.old sector area.old buffer.old }
+    {
+        let role = Role::admit(role, Role::Fitter)?;
+        let sector = Sector::try_from(sector)?;
+        engine::fetch::fetch(self.job(sector), area, buffer)?;
+        if role == Role::Operator && self.waits(sector) {
+            self.bring_in(sector, area);
+        }
+        Ok(())
     }
 }

@@ -1,16 +1,23 @@
 // The hand-in of a matrix for a sector, in the place of Load: it is loaded, or it waits for the sector's job to be fetched.
-ghost use Rattle.std.specs.Prelude.{◌≡◌, ◌<◌, length};
-ghost use Rattle.matrix_record.specs.MatrixRecord.{matrix_bytes};
-ghost use Rattle.desk.specs.Desk.{sector_count};
-ghost use Rattle.desk.specs.HandIn.{HandInOutcome, hand_in_refusal_of, must_wait_of, kept_reply, hand_in_of};
+ghost use Rattle.std.specs.Prelude.{◌≡◌};
+ghost use Rattle.desk.specs.HandIn.{HandInOutcome, must_wait_of, hand_in_of};
+ghost use Rattle.desk.specs.Replies.{desk_load_reply};
 
 use crate::Desk;
-use crate::roles::{admission_refusal, may_operate};
-use crate::sector::{heard_at, job_at, seated};
-use crate::waiting::{kept, take_in, waits_at};
+use crate::roles::Role;
+use crate::sector::Sector;
+use crate::waiting::take_in;
 use engine::job::Job;
+use refusals::Refusal;
 
-// The desk after the call, the refusal's number, and the sector's heard byte and job: as they stand where the matrix waits.
+// The sector's heard byte and job: as they stand where the matrix waits. Not the engine's Loaded, since then nothing is loaded.
+#[derive(Clone, Copy)]
+pub struct HandedIn {
+    pub heard: u8,
+    pub job: Job,
+}
+
+// What C is answered: the desk after the call, the refusal's number, and the sector's heard byte and job: as they stand where the matrix waits.
 #[repr(C)]
 #[derive(Clone, Copy)]
 pub struct DeskLoadReply {
@@ -20,68 +27,59 @@ pub struct DeskLoadReply {
     pub job: Job,
 }
 
-// The number of the first test that fails, 0 for none.
-fn hand_in_refusal(role: u32, sector: u32, bytes: &[u8], area: &[i32]) -> u8
-    ensures { result ≡ hand_in_refusal_of role sector bytes.now area.now }
-{
-    let may = may_operate(role);
-    let refused = admission_refusal(may, sector);
-    if refused != 0 {
-        return refused;
-    }
-    engine::load::load_refusal(bytes, area)
-}
-
-// Whether a matrix must wait: one waits already, or the sector's job is unfinished.
-fn must_wait(desk: Desk, sector: u32) -> bool
-    requires { sector < sector_count }
-    ensures { result ≡ must_wait_of desk sector }
-{
-    if waits_at(desk, sector) {
-        return true;
-    }
-    let job = job_at(desk, sector);
-    (job.turn as usize) < schedule::COUNT
-}
-
-// A matrix that passed the tests waits, in the place of one that waited.
-fn wait(desk: Desk, sector: u32, bytes: &[u8]) -> DeskLoadReply
-    requires { (sector < sector_count) × (length bytes.now ≡ matrix_bytes) }
-    ensures { result ≡ kept_reply desk sector bytes.now }
-{
-    let job = job_at(desk, sector);
-    let heard = heard_at(desk, sector);
-    let after = kept(desk, sector, bytes);
-    DeskLoadReply {
-        desk: after,
-        number: 0,
-        heard,
-        job,
+impl DeskLoadReply {
+    pub fn of(desk: Desk, outcome: Result<HandedIn, Refusal>) -> DeskLoadReply
+        ensures { result ≡ desk_load_reply desk outcome }
+    {
+        match outcome {
+            Ok(handed) => DeskLoadReply {
+                desk,
+                number: 0,
+                heard: handed.heard,
+                job: handed.job,
+            },
+            Err(refusal) => DeskLoadReply {
+                desk,
+                number: refusal.number(),
+                heard: 0,
+                job: Job::NONE,
+            },
+        }
     }
 }
 
-// Hands in a matrix record for a sector, or refuses and changes nothing.
-pub fn hand_in(role: u32, desk: Desk, sector: u32, bytes: &[u8], area: &mut [i32]) -> DeskLoadReply
-    ensures { record { reply = result; area = area.new } ≡ hand_in_of role desk sector bytes.now area.old }
-{
-    let number = hand_in_refusal(role, sector, bytes, area);
-    if number != 0 {
-        return DeskLoadReply {
-            desk,
-            number,
-            heard: 0,
-            job: Job { turn: 0, made: 0 },
-        };
+impl Desk {
+    // Whether a matrix must wait: one waits already, or the sector's job is unfinished.
+    #[tactic(auto, unfolding(crate::specs::HandIn::must_wait_of))]
+    fn must_wait(&self, sector: Sector) -> bool
+        ensures { result ≡ must_wait_of self.now sector }
+    {
+        self.waits(sector) || (self.job(sector).turn as usize) < schedule::COUNT
     }
-    if must_wait(desk, sector) {
-        return wait(desk, sector, bytes);
-    }
-    let heard = take_in(bytes, area);
-    let after = seated(desk, sector, heard);
-    DeskLoadReply {
-        desk: after,
-        number: 0,
-        heard,
-        job: Job { turn: 0, made: 0 },
+
+    // Hands in a matrix record for a sector, or refuses and changes nothing.
+    #[tactic(auto, unfolding(crate::specs::HandIn::hand_in_of, crate::specs::HandIn::hand_in_refusal_of, crate::specs::HandIn::hand_in_by), using(crate::proofs::Refused::hand_in_refused, refusals::proofs::Outcomes::refused_first, refusals::proofs::Outcomes::passed_first))]
+    pub fn hand_in(
+        &mut self,
+        role: u32,
+        sector: u32,
+        bytes: &[u8],
+        area: &mut [i32],
+    ) -> Result<HandedIn, Refusal>
+        ensures { record { reply = desk_load_reply self.new result; area = area.new } ≡ hand_in_of role self.old sector bytes.now area.old }
+    {
+        Role::admit(role, Role::Operator)?;
+        let sector = Sector::try_from(sector)?;
+        let record = engine::load::check_load(bytes, area)?;
+        if self.must_wait(sector) {
+            self.keep(sector, record);
+        } else {
+            let heard = take_in(record, area);
+            self.seat(sector, heard);
+        }
+        Ok(HandedIn {
+            heard: self.heard_byte(sector),
+            job: self.job(sector),
+        })
     }
 }

@@ -1,6 +1,6 @@
 // A desk for eight sectors over the engine: each sector has its own job, heard byte and area, its own share of a round, and room for one matrix that waits.
-// The host keeps the desk and hands it to each call, which answers it anew. Each call but the making of a new desk is handed the role of whoever makes it,
-// tests its own input and refuses by the number of the first test that fails, with the desk and every lent buffer as they were and all other fields 0.
+// The host keeps the desk and lends it to each call. Each call but the making of a new desk is handed the numbers of the role of whoever makes it and of the
+// sector, since the C interface has numbers, tests its own input and refuses by the first test that fails, with the desk and every lent buffer as they were.
 
 #![tactic(auto)]
 
@@ -16,8 +16,10 @@ mod waiting;
 
 ghost use Rattle.std.specs.Prelude.{◌≡◌};
 ghost use Rattle.desk.specs.Desk.{new_desk};
+ghost use Rattle.desk.specs.Replies.{desk_reply};
 
 use engine::job::Job;
+use refusals::Refusal;
 
 // What the shares of all sectors make at most, and so the turns of a round.
 pub const ROUND_TURNS: u16 = 120;
@@ -25,15 +27,15 @@ pub const ROUND_TURNS: u16 = 120;
 // The share of each sector at first.
 pub const FIRST_SHARE: u16 = 15;
 
-// The roles. A viewer gets the heard byte and nothing else, a fitter the result record too, and the operator may also hand in, run, begin rounds and set shares.
+// The numbers by which the C interface has the roles.
 pub const VIEWER: u32 = 0;
 
 pub const FITTER: u32 = 1;
 
 pub const OPERATOR: u32 = 2;
 
-// Of each sector the job, the heard byte, the share, the turns that it has left in the round, whether a matrix waits (0 is no, any other number is yes),
-// and its record: 257 bytes from 257 times the sector on.
+// Arrays, flags and counts of sectors side by side are the C interface's: of each sector the job, the heard byte, the share, the turns that it has left in
+// the round, whether a matrix waits (0 is no, any other number is yes), and its record: 257 bytes from 257 times the sector on.
 #[repr(C)]
 #[derive(Clone, Copy)]
 pub struct Desk {
@@ -45,7 +47,7 @@ pub struct Desk {
     pub records: [u8; 2056],
 }
 
-// The desk after a call, and the refusal's number.
+// What C is answered: the desk after a call, and the refusal's number.
 #[repr(C)]
 #[derive(Clone, Copy)]
 pub struct DeskReply {
@@ -53,18 +55,32 @@ pub struct DeskReply {
     pub number: u8,
 }
 
-// A desk with no sector loaded and no matrix waiting, at the start of a round.
-pub fn new() -> Desk
-    ensures { result ≡ new_desk }
-{
-    let turn = schedule::COUNT as u32;
-    let job = Job { turn, made: 0 };
-    Desk {
-        jobs: [job; 8],
-        heard: [0; 8],
-        shares: [FIRST_SHARE; 8],
-        left: [FIRST_SHARE; 8],
-        waits: [0; 8],
-        records: [0; 2056],
+impl DeskReply {
+    // No From, here and in the other replies: the desk goes into the reply beside the outcome.
+    pub fn of(desk: Desk, outcome: Result<(), Refusal>) -> DeskReply
+        ensures { result ≡ desk_reply desk outcome }
+    {
+        DeskReply {
+            desk,
+            number: refusals::reply_number(outcome),
+        }
+    }
+}
+
+impl Desk {
+    // A desk with no sector loaded and no matrix waiting, at the start of a round.
+    pub fn new() -> Desk
+        ensures { result ≡ new_desk }
+    {
+        let turn = schedule::COUNT as u32;
+        let job = Job { turn, made: 0 };
+        Desk {
+            jobs: [job; 8],
+            heard: [0; 8],
+            shares: [FIRST_SHARE; 8],
+            left: [FIRST_SHARE; 8],
+            waits: [0; 8],
+            records: [0; 2056],
+        }
     }
 }

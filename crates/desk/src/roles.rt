@@ -1,54 +1,45 @@
-// What each role may, and the two tests ahead of all others.
-ghost use Rattle.std.specs.Prelude.{◌≡◌};
-ghost use Rattle.desk.specs.Roles.{may_operate_of, may_fetch_of, may_hear_of, role_test, admission_test};
+// Who calls, and the test ahead of all others.
+ghost use Rattle.std.specs.Prelude.{◌≡◌, IfOk};
+ghost use Rattle.refusals.specs.Outcomes.{outcome_number};
+ghost use Rattle.desk.specs.Roles.{role_test, may_of, role_of};
 
-use crate::sector::sector_refusal;
 use crate::{FITTER, OPERATOR, VIEWER};
+use refusals::Refusal;
 
-// Whether the role may hand in, run, begin rounds and set shares.
-pub fn may_operate(role: u32) -> bool
-    ensures { result ≡ may_operate_of role }
-{
-    role == OPERATOR
+// A viewer gets the heard byte and nothing else, a fitter the result record too, and the operator may also hand in, run, begin rounds and set shares.
+#[derive(Clone, Copy, Debug, PartialEq, Eq, PartialOrd, Ord)]
+pub enum Role {
+    Viewer,
+    Fitter,
+    Operator,
 }
 
-// Whether it gets the result record.
-pub fn may_fetch(role: u32) -> bool
-    ensures { result ≡ may_fetch_of role }
-{
-    if role == FITTER {
-        return true;
+// By its number in the C interface. Any other number may nothing.
+impl TryFrom<u32> for Role {
+    type Error = Refusal;
+
+    ghost try_from_gives = { λ number result. result ≡ role_of number };
+
+    fn try_from(number: u32) -> Result<Role, Refusal> {
+        match number {
+            VIEWER => Ok(Role::Viewer),
+            FITTER => Ok(Role::Fitter),
+            OPERATOR => Ok(Role::Operator),
+            _ => Err(Refusal::NotAllowed),
+        }
     }
-    may_operate(role)
 }
 
-// Whether it gets the heard byte.
-pub fn may_hear(role: u32) -> bool
-    ensures { result ≡ may_hear_of role }
-{
-    if role == VIEWER {
-        return true;
+impl Role {
+    // Test 15: the role of this number, where it may what `least` may.
+    pub fn admit(number: u32, least: Role) -> Result<Role, Refusal>
+        ensures number { outcome_number result ≡ role_test (may_of least number) }
+        ensures same { IfOk result (λ role. Ok role ≡ role_of number) }
+    {
+        let role = Role::try_from(number)?;
+        if role < least {
+            return Err(Refusal::NotAllowed);
+        }
+        Ok(role)
     }
-    may_fetch(role)
-}
-
-// The number of test 15 if it fails, else 0.
-pub fn role_refusal(may: bool) -> u8
-    ensures { result ≡ role_test may }
-{
-    if may {
-        return 0;
-    }
-    refusals::NOT_ALLOWED
-}
-
-// The number of the first of tests 15 and 12 that fails, 0 for none.
-pub fn admission_refusal(may: bool, sector: u32) -> u8
-    ensures { result ≡ admission_test may sector }
-{
-    let refused = role_refusal(may);
-    if refused != 0 {
-        return refused;
-    }
-    sector_refusal(sector)
 }

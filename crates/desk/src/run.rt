@@ -1,13 +1,17 @@
 // Run for a sector: turns of its own count for its job.
-ghost use Rattle.std.specs.Prelude.{◌≡◌, min};
+ghost use Rattle.std.specs.Prelude.{◌≡◌, IfOk};
+ghost use Rattle.refusals.specs.Outcomes.{outcome_number};
+ghost use Rattle.desk.specs.Replies.{desk_run_reply};
 ghost use Rattle.desk.specs.Run.{count_test, DeskRunOutcome, desk_run_refusal, desk_run_of};
 
 use crate::Desk;
-use crate::roles::{admission_refusal, may_operate};
-use crate::sector::{job_at, left_at, paid};
+use crate::roles::Role;
+use crate::sector::Sector;
 use engine::job::Job;
+use engine::run::Ran;
+use refusals::Refusal;
 
-// The desk after the call, the refusal's number, the sector's job, and of this call the turns, skipped ones included, the clamps in R and the clamps
+// What C is answered: the desk after the call, the refusal's number, the sector's job, and of this call the turns, skipped ones included, the clamps in R and the clamps
 // in Q.
 #[repr(C)]
 #[derive(Clone, Copy)]
@@ -20,74 +24,79 @@ pub struct DeskRunReply {
     pub clamps_q: u32,
 }
 
-// The number of test 13 if it fails, else 0: turns are asked for, for an unfinished job, and the sector has none left in the round.
-fn count_refusal(job: Job, left: u16, request: u16) -> u8
-    ensures { result ≡ count_test job left request }
-{
-    if request == 0 {
-        return 0;
+impl DeskRunReply {
+    pub fn of(desk: Desk, outcome: Result<Ran, Refusal>) -> DeskRunReply
+        ensures { result ≡ desk_run_reply desk outcome }
+    {
+        match outcome {
+            Ok(ran) => DeskRunReply {
+                desk,
+                number: 0,
+                job: ran.job,
+                count: ran.count,
+                clamps_r: ran.clamps.r,
+                clamps_q: ran.clamps.q,
+            },
+            Err(refusal) => DeskRunReply {
+                desk,
+                number: refusal.number(),
+                job: Job::NONE,
+                count: 0,
+                clamps_r: 0,
+                clamps_q: 0,
+            },
+        }
     }
-    if schedule::COUNT <= job.turn as usize {
-        return 0;
-    }
-    if left == 0 {
-        return refusals::COUNT_USED_UP;
-    }
-    0
 }
 
-// The number of the first test that fails, 0 for none.
-fn run_refusal(role: u32, desk: Desk, sector: u32, request: u16, area: &[i32]) -> u8
-    ensures { result ≡ desk_run_refusal role desk sector request area.now }
+// Test 13: turns are asked for, for an unfinished job, and the sector has none left in the round.
+#[tactic(auto, unfolding(crate::specs::Run::count_test))]
+fn check_count(job: Job, left: u16, request: u16) -> Result<(), Refusal>
+    ensures { outcome_number result ≡ count_test job left request }
 {
-    let may = may_operate(role);
-    let refused = admission_refusal(may, sector);
-    if refused != 0 {
-        return refused;
+    let unfinished = (job.turn as usize) < schedule::COUNT;
+    if request > 0 && unfinished && left == 0 {
+        return Err(Refusal::CountUsedUp);
     }
-    let job = job_at(desk, sector);
-    let number = engine::run::run_refusal(job, area);
-    if number != 0 {
-        return number;
-    }
-    let left = left_at(desk, sector);
-    count_refusal(job, left, request)
+    Ok(())
 }
 
-fn smaller(a: u16, b: u16) -> u16
-    ensures { result ≡ min a b }
-{
-    if a < b { a } else { b }
-}
-
-// Takes the smallest of the request, what the sector has left in the round and what its job has left; or refuses and changes nothing.
-pub fn run(role: u32, desk: Desk, sector: u32, request: u16, area: &mut [i32]) -> DeskRunReply
-    ensures { record { reply = result; area = area.new } ≡ desk_run_of role desk sector request area.old }
-{
-    let number = run_refusal(role, desk, sector, request, area);
-    if number != 0 {
-        return DeskRunReply {
-            desk,
-            number,
-            job: Job { turn: 0, made: 0 },
-            count: 0,
-            clamps_r: 0,
-            clamps_q: 0,
-        };
+impl Desk {
+    // The tests of Run: the sector that passes them.
+    #[tactic(auto, unfolding(crate::specs::Run::desk_run_refusal), using(refusals::proofs::Outcomes::refused_first, refusals::proofs::Outcomes::passed_first))]
+    fn check_run(
+        &self,
+        role: u32,
+        sector: u32,
+        request: u16,
+        area: &[i32],
+    ) -> Result<Sector, Refusal>
+        ensures number { outcome_number result ≡ desk_run_refusal role self.now sector request area.now }
+        ensures same { IfOk result (λ checked. checked ≡ sector) }
+    {
+        Role::admit(role, Role::Operator)?;
+        let sector = Sector::try_from(sector)?;
+        let job = self.job(sector);
+        engine::run::check_run(job, area)?;
+        check_count(job, self.left(sector), request)?;
+        Ok(sector)
     }
-    let left = left_at(desk, sector);
-    let budget = smaller(request, left);
-    let reply = engine::run::run(job_at(desk, sector), budget, area);
-    let job = reply.job;
-    let count = reply.count;
-    let rest = left - count as u16;
-    let after = paid(desk, sector, job, rest);
-    DeskRunReply {
-        desk: after,
-        number: 0,
-        job,
-        count,
-        clamps_r: reply.clamps_r,
-        clamps_q: reply.clamps_q,
+
+    // Takes the smallest of the request, what the sector has left in the round and what its job has left; or refuses and changes nothing.
+    #[tactic(auto, unfolding(crate::specs::Run::desk_run_of, crate::specs::Run::desk_run_by), using(crate::proofs::Refused::run_refused))]
+    pub fn run(
+        &mut self,
+        role: u32,
+        sector: u32,
+        request: u16,
+        area: &mut [i32],
+    ) -> Result<Ran, Refusal>
+        ensures { record { reply = desk_run_reply self.new result; area = area.new } ≡ desk_run_of role self.old sector request area.old }
+    {
+        let sector = self.check_run(role, sector, request, area)?;
+        let left = self.left(sector);
+        let ran = engine::run::run(self.job(sector), request.min(left), area)?;
+        self.pay(sector, ran.job, left - ran.count as u16);
+        Ok(ran)
     }
 }

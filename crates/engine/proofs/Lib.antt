@@ -1,3 +1,4 @@
 -- Laws of the calls that several proofs cite.
 pub mod Accepted
+pub mod Refused
 pub mod Taken

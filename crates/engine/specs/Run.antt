@@ -1,16 +1,24 @@
 -- Run: what it answers and what it leaves in the workspace, on all inputs. Assumes nothing.
-use Rattle.std.specs.Prelude.{ℕ, zero, suc, ◌+◌, ◌-◌, min, List, ℤ}
+use Rattle.std.specs.Prelude.{ℕ, zero, suc, ◌+◌, ◌-◌, min, List, ℤ, Result, Ok, Err}
 use Rattle.refusals.specs.Refusals.{first}
+use Rattle.refusals.specs.declared.Refusal.{Refusal}
+use Rattle.refusals.specs.Outcomes.{number_of}
 use Rattle.schedule.specs.Schedule.{rotation_count}
 use Rattle.workspace.specs.Workspace.{workspace_test}
 use Rattle.workspace.specs.Rotations.{words_after, saturations_counted, turns_made}
 use Rattle.engine.specs.Job.{job_test}
 use Rattle.engine.specs.declared.job.Job.{Job}
+use Rattle.engine.specs.declared.run.Ran.{Ran}
 use Rattle.engine.specs.declared.run.RunReply.{RunReply}
 
 pub record RunOutcome : Type 0 where
   pub reply : RunReply
   pub workspace : List ℤ
+
+-- the reply of an outcome, for the job that the call was handed: its values, or the refusal's number and that job
+abbrev pub run_reply : Job → Result Ran Refusal → RunReply
+run_reply job (Ok ran) = record { number = 0; job = ran.job; count = ran.count; clamps_r = ran.clamps.r; clamps_q = ran.clamps.q }
+run_reply job (Err refusal) = record { number = number_of refusal; job = job; count = 0; clamps_r = 0; clamps_q = 0 }
 
 -- tests 3, 5
 unfoldable pub run_refusal_of : Job → List ℤ → ℕ

@@ -1,19 +1,27 @@
 -- Whole: what it answers and what it leaves in the workspace and the buffer, on all inputs. Assumes nothing.
-use Rattle.std.specs.Prelude.{ℕ, zero, suc, List, ℤ}
+use Rattle.std.specs.Prelude.{ℕ, zero, suc, List, ℤ, Result, Ok, Err}
 use Rattle.lists.specs.Lists.{filled}
 use Rattle.refusals.specs.Refusals.{first, header_test, buffer_test}
+use Rattle.refusals.specs.declared.Refusal.{Refusal}
+use Rattle.refusals.specs.Outcomes.{number_of}
 use Rattle.matrix_record.specs.MatrixRecord.{matrix_tag, matrix_bytes, matrix_test, heard_byte_of}
 use Rattle.result_record.specs.ResultRecord.{result_bytes, result_byte}
 use Rattle.schedule.specs.Schedule.{rotation_count}
 use Rattle.workspace.specs.Workspace.{workspace_test, R, Q}
 use Rattle.workspace.specs.Loading.{loaded_words}
 use Rattle.workspace.specs.Rotations.{words_after, saturations_counted}
+use Rattle.engine.specs.declared.whole.Factored.{Factored}
 use Rattle.engine.specs.declared.whole.WholeReply.{WholeReply}
 
 pub record WholeOutcome : Type 0 where
   pub reply : WholeReply
   pub workspace : List ℤ
   pub buffer : List ℕ
+
+-- the reply of an outcome: its values, or the refusal's number alone
+abbrev pub whole_reply : Result Factored Refusal → WholeReply
+whole_reply (Ok factored) = record { number = 0; heard = factored.heard; clamps_r = factored.clamps.r; clamps_q = factored.clamps.q }
+whole_reply (Err refusal) = record { number = number_of refusal; heard = 0; clamps_r = 0; clamps_q = 0 }
 
 -- tests 1, 2, 3, 7, 4
 unfoldable pub whole_refusal_of : List ℕ → List ℤ → List ℕ → ℕ

@@ -1,41 +1,34 @@
 // Fetch: the result record of a finished workspace.
 ghost use Rattle.std.specs.Prelude.{◌≡◌};
+ghost use Rattle.refusals.specs.Outcomes.{outcome_number};
 ghost use Rattle.engine.specs.Fetch.{FetchOutcome, fetch_refusal_of, fetch_of};
 
-use crate::job;
 use crate::job::Job;
+use crate::lent::{check_buffer, check_workspace};
+use refusals::Refusal;
 
-// The number of the first test that fails, 0 for none.
-pub fn fetch_refusal(job: Job, workspace: &[i32], buffer: &[u8]) -> u8
-    ensures { result ≡ fetch_refusal_of job workspace.now buffer.now }
+// Tests 3, 5, 6, 7 and 8, in this order.
+#[tactic(auto, unfolding(crate::specs::Fetch::fetch_refusal_of), using(refusals::proofs::Outcomes::refused_first, refusals::proofs::Outcomes::passed_first))]
+pub fn check_fetch(job: Job, workspace: &[i32], buffer: &[u8]) -> Result<(), Refusal>
+    ensures { outcome_number result ≡ fetch_refusal_of job workspace.now buffer.now }
 {
-    if workspace.len() < workspace::WORDS {
-        return refusals::SHORT_WORKSPACE;
-    }
-    let refused = job::job_refusal(job);
-    if refused != 0 {
-        return refused;
-    }
+    check_workspace(workspace)?;
+    job.check()?;
     if (job.turn as usize) < schedule::COUNT {
-        return refusals::UNFINISHED;
+        return Err(Refusal::Unfinished);
     }
-    if buffer.len() < result_record::BYTES {
-        return refusals::SHORT_BUFFER;
-    }
+    check_buffer(buffer)?;
     if !workspace::result::finished(workspace) {
-        return refusals::NOT_TRIANGULAR;
+        return Err(Refusal::NotTriangular);
     }
-    0
+    Ok(())
 }
 
-// Writes the result record of a finished workspace, or refuses and changes nothing. Answers the refusal's number, 0 for none.
-pub fn fetch(job: Job, workspace: &[i32], buffer: &mut [u8]) -> u8
-    ensures { record { number = result; buffer = buffer.new } ≡ fetch_of job workspace.now buffer.old }
+// Writes the result record of a finished workspace, or refuses and changes nothing.
+pub fn fetch(job: Job, workspace: &[i32], buffer: &mut [u8]) -> Result<(), Refusal>
+    ensures { record { number = outcome_number result; buffer = buffer.new } ≡ fetch_of job workspace.now buffer.old }
 {
-    let number = fetch_refusal(job, workspace, buffer);
-    if number != 0 {
-        return number;
-    }
+    check_fetch(job, workspace, buffer)?;
     workspace::result::write(workspace, buffer);
-    0
+    Ok(())
 }

@@ -1,10 +1,20 @@
 // Load: a matrix record becomes the words of a workspace.
-ghost use Rattle.std.specs.Prelude.{◌≡◌};
-ghost use Rattle.engine.specs.Load.{LoadOutcome, load_refusal_of, load_of};
+ghost use Rattle.std.specs.Prelude.{◌≡◌, IfOk};
+ghost use Rattle.refusals.specs.Outcomes.{outcome_number};
+ghost use Rattle.engine.specs.Load.{LoadOutcome, load_reply, load_refusal_of, load_of};
 
 use crate::job::Job;
+use crate::lent::check_workspace;
+use refusals::Refusal;
 
-// The refusal's number, the heard byte and the job.
+// The heard byte and the job.
+#[derive(Clone, Copy)]
+pub struct Loaded {
+    pub heard: u8,
+    pub job: Job,
+}
+
+// Stays a number beside values, since C reads it: the refusal's number, the heard byte and the job.
 #[repr(C)]
 #[derive(Clone, Copy)]
 pub struct LoadReply {
@@ -13,41 +23,51 @@ pub struct LoadReply {
     pub job: Job,
 }
 
-// The number of the first test that fails, 0 for none.
-pub fn load_refusal(bytes: &[u8], workspace: &[i32]) -> u8
-    ensures { result ≡ load_refusal_of bytes.now workspace.now }
+impl From<Result<Loaded, Refusal>> for LoadReply {
+    ghost from_gives = { λ outcome reply. reply ≡ load_reply outcome };
+
+    fn from(outcome: Result<Loaded, Refusal>) -> LoadReply {
+        match outcome {
+            Ok(loaded) => LoadReply {
+                number: 0,
+                heard: loaded.heard,
+                job: loaded.job,
+            },
+            Err(refusal) => LoadReply {
+                number: refusal.number(),
+                heard: 0,
+                job: Job::NONE,
+            },
+        }
+    }
+}
+
+// Tests 1, 2, 3 and 4: the record that the bytes are.
+#[tactic(auto, unfolding(crate::specs::Load::load_refusal_of), using(refusals::proofs::Outcomes::refused_first, refusals::proofs::Outcomes::passed_first))]
+pub fn check_load<'a>(
+    bytes: &'a [u8],
+    workspace: &[i32],
+) -> Result<&'a [u8; matrix_record::BYTES], Refusal>
+    ensures number { outcome_number result ≡ load_refusal_of bytes.now workspace.now }
+    ensures same { IfOk result (λ checked. checked.now ≡ bytes.now) }
 {
-    let number = refusals::header_refusal(bytes, matrix_record::TAG, matrix_record::BYTES);
-    if number != 0 {
-        return number;
+    let checked = matrix_record::check_header(bytes)?;
+    check_workspace(workspace)?;
+    if matrix_record::heard_byte(checked) == 0 {
+        return Err(Refusal::NoneHeard);
     }
-    if workspace.len() < workspace::WORDS {
-        return refusals::SHORT_WORKSPACE;
-    }
-    if matrix_record::heard_byte(bytes) == 0 {
-        return refusals::NONE_HEARD;
-    }
-    0
+    Ok(checked)
 }
 
 // Loads a matrix record, or refuses and changes nothing.
-pub fn load(bytes: &[u8], workspace: &mut [i32]) -> LoadReply
-    ensures { record { reply = result; workspace = workspace.new } ≡ load_of bytes.now workspace.old }
+pub fn load(bytes: &[u8], workspace: &mut [i32]) -> Result<Loaded, Refusal>
+    ensures { record { reply = load_reply result; workspace = workspace.new } ≡ load_of bytes.now workspace.old }
 {
-    let number = load_refusal(bytes, workspace);
-    if number != 0 {
-        return LoadReply {
-            number,
-            heard: 0,
-            job: Job { turn: 0, made: 0 },
-        };
-    }
-    workspace::loading::fill_from_matrix(bytes, workspace);
-    let heard = matrix_record::heard_byte(bytes);
-    let job = Job { turn: 0, made: 0 };
-    LoadReply {
-        number: 0,
+    let checked = check_load(bytes, workspace)?;
+    workspace::filling::fill(checked, workspace);
+    let heard = matrix_record::heard_byte(checked);
+    Ok(Loaded {
         heard,
-        job,
-    }
+        job: Job::LOADED,
+    })
 }

@@ -1,10 +1,13 @@
 // Read: a result record becomes the words of a workspace again.
-ghost use Rattle.std.specs.Prelude.{◌≡◌};
-ghost use Rattle.engine.specs.Read.{ReadOutcome, read_refusal_of, read_of};
+ghost use Rattle.std.specs.Prelude.{◌≡◌, IfOk};
+ghost use Rattle.refusals.specs.Outcomes.{outcome_number};
+ghost use Rattle.engine.specs.Read.{ReadOutcome, read_reply, read_refusal_of, read_of};
 
 use crate::job::Job;
+use crate::lent::check_workspace;
+use refusals::Refusal;
 
-// The refusal's number and the job.
+// Stays a number beside values, since C reads it: the refusal's number and the job.
 #[repr(C)]
 #[derive(Clone, Copy)]
 pub struct ReadReply {
@@ -12,38 +15,42 @@ pub struct ReadReply {
     pub job: Job,
 }
 
-// The number of the first test that fails, 0 for none.
-pub fn read_refusal(bytes: &[u8], workspace: &[i32]) -> u8
-    ensures { result ≡ read_refusal_of bytes.now workspace.now }
-{
-    let number = refusals::header_refusal(bytes, result_record::TAG, result_record::BYTES);
-    if number != 0 {
-        return number;
+impl From<Result<Job, Refusal>> for ReadReply {
+    ghost from_gives = { λ outcome reply. reply ≡ read_reply outcome };
+
+    fn from(outcome: Result<Job, Refusal>) -> ReadReply {
+        match outcome {
+            Ok(job) => ReadReply { number: 0, job },
+            Err(refusal) => ReadReply {
+                number: refusal.number(),
+                job: Job::NONE,
+            },
+        }
     }
-    if workspace.len() < workspace::WORDS {
-        return refusals::SHORT_WORKSPACE;
-    }
-    if !result_record::record_finished(bytes) {
-        return refusals::NOT_TRIANGULAR;
-    }
-    0
 }
 
-// Reads a result record back into a workspace, or refuses and changes nothing.
-pub fn read(bytes: &[u8], workspace: &mut [i32]) -> ReadReply
-    ensures { record { reply = result; workspace = workspace.new } ≡ read_of bytes.now workspace.old }
+// Tests 1, 2, 3 and 8: the record that the bytes are.
+#[tactic(auto, unfolding(crate::specs::Read::read_refusal_of), using(refusals::proofs::Outcomes::refused_first, refusals::proofs::Outcomes::passed_first))]
+pub fn check_read<'a>(
+    bytes: &'a [u8],
+    workspace: &[i32],
+) -> Result<&'a [u8; result_record::BYTES], Refusal>
+    ensures number { outcome_number result ≡ read_refusal_of bytes.now workspace.now }
+    ensures same { IfOk result (λ checked. checked.now ≡ bytes.now) }
 {
-    let number = read_refusal(bytes, workspace);
-    if number != 0 {
-        return ReadReply {
-            number,
-            job: Job { turn: 0, made: 0 },
-        };
+    let checked = result_record::check_header(bytes)?;
+    check_workspace(workspace)?;
+    if !result_record::record_finished(checked) {
+        return Err(Refusal::NotTriangular);
     }
-    workspace::result::fill_from_result(bytes, workspace);
-    let turn = schedule::COUNT as u32;
-    ReadReply {
-        number: 0,
-        job: Job { turn, made: 0 },
-    }
+    Ok(checked)
+}
+
+// Reads a result record back into a workspace, and answers the job that fetches it; or refuses and changes nothing.
+pub fn read(bytes: &[u8], workspace: &mut [i32]) -> Result<Job, Refusal>
+    ensures { record { reply = read_reply result; workspace = workspace.new } ≡ read_of bytes.now workspace.old }
+{
+    let checked = check_read(bytes, workspace)?;
+    workspace::filling::fill(checked, workspace);
+    Ok(Job::READ)
 }

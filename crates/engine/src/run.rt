@@ -1,11 +1,23 @@
 // Run: some of the turns that remain.
-ghost use Rattle.std.specs.Prelude.{◌≡◌, min};
-ghost use Rattle.engine.specs.Run.{RunOutcome, run_refusal_of, run_of};
+ghost use Rattle.std.specs.Prelude.{◌≡◌};
+ghost use Rattle.refusals.specs.Outcomes.{outcome_number};
+ghost use Rattle.engine.specs.Run.{RunOutcome, run_reply, run_refusal_of, run_of};
 
-use crate::job;
 use crate::job::Job;
+use crate::lent::check_workspace;
+use refusals::Refusal;
+use rotation::Saturations;
 
-// The refusal's number, the next job, and of this call the turns, skipped ones included, the clamps in R and the clamps in Q.
+// The next job, and of this call the turns, skipped ones included, and the clamps.
+#[derive(Clone, Copy)]
+pub struct Ran {
+    pub job: Job,
+    pub count: u32,
+    pub clamps: Saturations,
+}
+
+// Stays a number beside values, since C reads it: the refusal's number, the next job, and of this call the turns, skipped ones included, the clamps in
+// R and the clamps in Q.
 #[repr(C)]
 #[derive(Clone, Copy)]
 pub struct RunReply {
@@ -16,49 +28,55 @@ pub struct RunReply {
     pub clamps_q: u32,
 }
 
-// The number of the first test that fails, 0 for none.
-pub fn run_refusal(job: Job, workspace: &[i32]) -> u8
-    ensures { result ≡ run_refusal_of job workspace.now }
-{
-    if workspace.len() < workspace::WORDS {
-        return refusals::SHORT_WORKSPACE;
+impl RunReply {
+    // A function and no From, since the reply of a refusal hands back the job that the call was handed.
+    pub fn of(job: Job, outcome: Result<Ran, Refusal>) -> RunReply
+        ensures { result ≡ run_reply job outcome }
+    {
+        match outcome {
+            Ok(ran) => RunReply {
+                number: 0,
+                job: ran.job,
+                count: ran.count,
+                clamps_r: ran.clamps.r,
+                clamps_q: ran.clamps.q,
+            },
+            Err(refusal) => RunReply {
+                number: refusal.number(),
+                job,
+                count: 0,
+                clamps_r: 0,
+                clamps_q: 0,
+            },
+        }
     }
-    job::job_refusal(job)
 }
 
-fn smaller(a: usize, b: usize) -> usize
-    ensures { result ≡ min a b }
+// Tests 3 and 5, in this order.
+#[tactic(auto, unfolding(crate::specs::Run::run_refusal_of), using(refusals::proofs::Outcomes::refused_first, refusals::proofs::Outcomes::passed_first))]
+pub fn check_run(job: Job, workspace: &[i32]) -> Result<(), Refusal>
+    ensures { outcome_number result ≡ run_refusal_of job workspace.now }
 {
-    if a < b { a } else { b }
+    check_workspace(workspace)?;
+    job.check()
 }
 
 // Takes at most `budget` of the turns that remain of the job, or refuses and changes nothing.
-pub fn run(job: Job, budget: u16, workspace: &mut [i32]) -> RunReply
-    ensures { record { reply = result; workspace = workspace.new } ≡ run_of job budget workspace.old }
+pub fn run(job: Job, budget: u16, workspace: &mut [i32]) -> Result<Ran, Refusal>
+    ensures { record { reply = run_reply job result; workspace = workspace.new } ≡ run_of job budget workspace.old }
 {
-    let number = run_refusal(job, workspace);
-    if number != 0 {
-        return RunReply {
-            number,
-            job,
-            count: 0,
-            clamps_r: 0,
-            clamps_q: 0,
-        };
-    }
+    check_run(job, workspace)?;
     let first = job.turn as usize;
     let left = schedule::COUNT - first;
-    let count = smaller(budget as usize, left);
+    let count = (budget as usize).min(left);
     let tally = workspace::rotations::take_turns(first, count, workspace);
     let after = first + count;
-    let turn = after as u32;
-    let made = job.made + tally.made;
-    let taken = count as u32;
-    RunReply {
-        number: 0,
-        job: Job { turn, made },
-        count: taken,
-        clamps_r: tally.saturations.r,
-        clamps_q: tally.saturations.q,
-    }
+    Ok(Ran {
+        job: Job {
+            turn: after as u32,
+            made: job.made + tally.made,
+        },
+        count: count as u32,
+        clamps: tally.saturations,
+    })
 }

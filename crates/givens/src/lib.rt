@@ -5,7 +5,9 @@
 ghost use Rattle.std.specs.Prelude.{◌≡◌, ◌<◌, ◌≤◌, ◌+◌, ◌*◌, length};
 ghost use Rattle.rotation.specs.Turn.{is_clear_of, turned, turn_saturations, turn_made};
 
+use narrow::Word32;
 use rotation::{Saturations, Tally};
+use wide::Word64;
 
 // Whether the turn is clear: its lower leading word is 0 and its upper one 0 or more.
 fn is_clear(part: &[i32], column: usize, gap: usize) -> bool
@@ -20,6 +22,7 @@ fn is_clear(part: &[i32], column: usize, gap: usize) -> bool
 // One turn of the part that begins at the upper row: its leading column is `column`, and the lower row is `gap` rows on. Answers
 // what it counts, and whether it is made. A clear one costs this test and no more. Columns that are short enough are worked in 32-bit
 // words, where no word saturates, and any others in 64-bit words. Both come to the same definition.
+#[tactic(auto, unfolding(rotation::specs::Turn::turned, rotation::specs::Turn::turn_saturations, rotation::specs::Turn::turn_made))]
 pub fn rotate(part: &mut [i32], column: usize, gap: usize) -> Tally
     requires { (column < 16) × (1 ≤ gap) × (gap * 32 + 32 ≤ length part.old) }
     ensures words { part.new ≡ turned column gap part.old }
@@ -33,20 +36,15 @@ pub fn rotate(part: &mut [i32], column: usize, gap: usize) -> Tally
             saturations,
         };
     }
-    let base = gap * 32;
-    if narrow::norms_bounded(&part[..], base, column) {
-        let mut us = [0i32; 32];
-        let mut vs = [0i32; 32];
-        narrow::rotate_in(part, column, gap, &mut us[..], &mut vs[..]);
-        let saturations = Saturations::none();
-        return Tally {
-            made: 1,
-            saturations,
-        };
-    }
-    let mut us = [0i64; 32];
-    let mut vs = [0i64; 32];
-    let saturations = wide::rotate_in(part, column, gap, &mut us[..], &mut vs[..]);
+    let saturations = if narrow::norms_bounded(&part[..], gap * 32, column) {
+        let mut us = [Word32(0); 32];
+        let mut vs = [Word32(0); 32];
+        rows::rotate_in::<Word32>(part, column, gap, &mut us, &mut vs)
+    } else {
+        let mut us = [Word64(0); 32];
+        let mut vs = [Word64(0); 32];
+        rows::rotate_in::<Word64>(part, column, gap, &mut us, &mut vs)
+    };
     Tally {
         made: 1,
         saturations,

@@ -1,4 +1,4 @@
-// The weights for the modem, for C and Rust hosts: the call hands on the library's reply.
+// The weights for the modem, for C and Rust hosts: the call makes of what the library answers the reply that a host reads.
 ghost use Rattle.std.specs.Prelude.{◌≡◌};
 ghost use Rattle.weights.specs.Weights.{weights_of};
 
@@ -8,6 +8,5 @@ use weights::WeightsReply;
 pub fn hubqr_weights(bytes: &[u8], targets: Snapshot) -> WeightsReply
     ensures { result ≡ weights_of bytes.now targets.samples }
 {
-    let samples = targets.samples;
-    weights::weights(bytes, samples)
+    weights::weights(bytes, targets.samples).into()
 }

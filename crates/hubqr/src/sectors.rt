@@ -1,4 +1,4 @@
-// The desk for eight sectors, for C and Rust hosts: each call hands on the library's reply.
+// The desk for eight sectors, for C and Rust hosts: each call answers the desk anew, with the outcome of the library's call as a reply.
 ghost use Rattle.std.specs.Prelude.{◌≡◌};
 ghost use Rattle.desk.specs.Desk.{new_desk};
 ghost use Rattle.desk.specs.HandIn.{HandInOutcome, hand_in_of};
@@ -17,59 +17,65 @@ use desk::{Desk, DeskReply};
 pub fn hubqr_desk_new() -> Desk
     ensures { result ≡ new_desk }
 {
-    desk::new()
+    Desk::new()
 }
 
-pub fn hubqr_desk_begin(role: u32, desk: Desk) -> DeskReply
+pub fn hubqr_desk_begin(role: u32, mut desk: Desk) -> DeskReply
     ensures { result ≡ begin_of role desk }
 {
-    desk::rounds::begin(role, desk)
+    let outcome = desk.begin(role);
+    DeskReply::of(desk, outcome)
 }
 
 pub fn hubqr_desk_hand_in(
     role: u32,
-    desk: Desk,
+    mut desk: Desk,
     sector: u32,
     bytes: &[u8],
     area: &mut [i32],
 ) -> DeskLoadReply
     ensures { record { reply = result; area = area.new } ≡ hand_in_of role desk sector bytes.now area.old }
 {
-    desk::hand_in::hand_in(role, desk, sector, bytes, area)
+    let outcome = desk.hand_in(role, sector, bytes, area);
+    DeskLoadReply::of(desk, outcome)
 }
 
 pub fn hubqr_desk_run(
     role: u32,
-    desk: Desk,
+    mut desk: Desk,
     sector: u32,
     request: u16,
     area: &mut [i32],
 ) -> DeskRunReply
     ensures { record { reply = result; area = area.new } ≡ desk_run_of role desk sector request area.old }
 {
-    desk::run::run(role, desk, sector, request, area)
+    let outcome = desk.run(role, sector, request, area);
+    DeskRunReply::of(desk, outcome)
 }
 
 pub fn hubqr_desk_fetch(
     role: u32,
-    desk: Desk,
+    mut desk: Desk,
     sector: u32,
     area: &mut [i32],
     buffer: &mut [u8],
 ) -> DeskReply
     ensures { record { reply = result; area = area.new; buffer = buffer.new } ≡ desk_fetch_of role desk sector area.old buffer.old }
 {
-    desk::fetch::fetch(role, desk, sector, area, buffer)
+    let outcome = desk.fetch(role, sector, area, buffer);
+    DeskReply::of(desk, outcome)
 }
 
 pub fn hubqr_desk_heard(role: u32, desk: Desk, sector: u32) -> DeskHeardReply
     ensures { result ≡ desk_heard_of role desk sector }
 {
-    desk::heard::heard(role, desk, sector)
+    let outcome = desk.heard(role, sector);
+    DeskHeardReply::of(desk, outcome)
 }
 
-pub fn hubqr_desk_set_shares(role: u32, desk: Desk, shares: Shares) -> DeskReply
+pub fn hubqr_desk_set_shares(role: u32, mut desk: Desk, shares: Shares) -> DeskReply
     ensures { result ≡ set_shares_of role desk shares.shares }
 {
-    desk::shares::set_shares(role, desk, shares)
+    let outcome = desk.set_shares(role, shares);
+    DeskReply::of(desk, outcome)
 }

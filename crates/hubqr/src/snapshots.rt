@@ -1,4 +1,4 @@
-// The covariance of snapshots for C and Rust hosts: each hands on the library's reply.
+// The covariance of snapshots for C and Rust hosts: each makes of what the library answers the reply that a host reads.
 ghost use Rattle.std.specs.Prelude.{◌≡◌};
 ghost use Rattle.covariance.specs.Sums.{sums_none_of};
 ghost use Rattle.covariance.specs.AddSnapshot.{add_of};
@@ -6,6 +6,7 @@ ghost use Rattle.covariance.specs.WriteMatrix.{WriteOutcome, write_of};
 
 use covariance::add::AddReply;
 use covariance::{Sample, Sums};
+use refusals::reply_number;
 
 // Eight samples, in a struct since C hands no array over by value.
 #[repr(C)]
@@ -17,18 +18,18 @@ pub struct Snapshot {
 pub fn hubqr_sums_none() -> Sums
     ensures { result ≡ sums_none_of }
 {
-    covariance::sums_none()
+    Sums::none()
 }
 
-pub fn hubqr_add_snapshot(snapshot: Snapshot, sums: Sums) -> AddReply
+pub fn hubqr_add_snapshot(snapshot: Snapshot, mut sums: Sums) -> AddReply
     ensures { result ≡ add_of snapshot.samples sums }
 {
-    let samples = snapshot.samples;
-    covariance::add::add_snapshot(samples, sums)
+    let number = reply_number(sums.add(snapshot.samples));
+    AddReply { number, sums }
 }
 
 pub fn hubqr_write_matrix(sums: Sums, buffer: &mut [u8]) -> u8
     ensures { record { number = result; buffer = buffer.new } ≡ write_of sums buffer.old }
 {
-    covariance::write::write_matrix(sums, buffer)
+    reply_number(sums.write_matrix(buffer))
 }

@@ -1,5 +1,6 @@
 // The calls of `hubqr` as libhubqr.a exports them for C and Rust hosts. Each hands on the call of its name and states its clause again, and the
-// headers in include/ declare each.
+// headers in include/ declare each. They are twins of those of `hubqr`, since the C interface wants a function of each name and a library for others may
+// export none.
 
 #![tactic(auto)]
 

@@ -1,12 +1,12 @@
--- A loop that copies: i of n bytes of s stand in d from place `at` on. Assumes nothing.
-use mathlib.Core.Path.{◌≡◌, refl, sym, ap, ◌∙◌}
-use mathlib.Core.List.{List, ◌++◌}
-use Prim.Native.Nat.{ℕ, ◌+◌, ◌-◌, ◌<◌, ◌≤◌}
-use native.Mathlib.Numerals.{add-one}
+-- Bytes copied down: what is still to be copied has not been overwritten. Assumes nothing.
+use mathlib.Core.Path.{◌≡◌, sym, ap, ◌∙◌}
+use mathlib.Core.List.{List}
+use Prim.Native.Nat.{ℕ, ◌+◌, ◌-◌, ◌≤◌}
 use native.Mathlib.Omega.{arith}
-use lib.ListN.{length, set, get_or, drop, length-set, take-append-drop}
-use lib.Seq.{paste, paste-zero, paste-suc, drop-paste, get_or-drop, take-add}
+use lib.ListN.{length, get_or, drop}
+use lib.Seq.{paste, drop-paste, get_or-drop}
 
+-- i of n bytes of s stand in d from place `at` on
 pub record Copying (d : List ℕ) (at : ℕ) (s : List ℕ) (n i : ℕ) (b : List ℕ) : Type 0 where
   pub within : i ≤ n
   pub room : at + n ≤ length d
@@ -14,25 +14,6 @@ pub record Copying (d : List ℕ) (at : ℕ) (s : List ℕ) (n i : ℕ) (b : Lis
   pub same : length b ≡ length d
   pub is : b ≡ paste d at s i
 
-pub copy-none : (d : List ℕ) (at : ℕ) (s : List ℕ) (n : ℕ) → at + n ≤ length d → n ≤ length s → Copying d at s n 0 d
-copy-none d at s n room enough =
-    record { within = omega arith; room = room; enough = enough; same = refl; is = paste-zero d at s }
-
--- one more store
-pub copy_more : {d : List ℕ} {at : ℕ} {s : List ℕ} {n i : ℕ} {b : List ℕ} {v : ℕ} → Copying d at s n i b → i < n → v ≡ get_or s i 0 → Copying d at s n (i + 1) (set b (at + i) v)
-copy_more {d} {at} {s} {n} {i} {b} {v} h l e =
-    record {
-      within = omega arith;
-      room = h.room;
-      enough = h.enough;
-      same = length-set b (at + i) v ∙ h.same;
-      is = rw (h.is, e, add-one) (paste-suc d at s i 0 (omega (arith, h.room)) (omega (arith, h.enough)));
-    }
-
-pub copy_done : {d : List ℕ} {at : ℕ} {s : List ℕ} {n i : ℕ} {b : List ℕ} → Copying d at s n i b → n ≤ i → b ≡ paste d at s n
-copy_done {d} {at} {s} {n} {i} h l = let e : i ≡ n = omega arith in h.is ∙ ap (paste d at s) e
-
--- what is copied down has not been overwritten
 pub copy_unread : {d : List ℕ} {to from n i : ℕ} {b : List ℕ} → Copying d to (drop from d) n i b → to ≤ from → get_or b (from + i) 0 ≡ get_or (drop from d) i 0
 copy_unread {d} {to} {from} {n} {i} {b} h l =
     let e : to + i + (from - to) ≡ from + i = omega arith in
@@ -41,7 +22,3 @@ copy_unread {d} {to} {from} {n} {i} {b} h l =
     ∙ ap (λ (l : List ℕ). get_or l (from - to) 0) (ap (drop (to + i)) h.is ∙ drop-paste d to (drop from d) i (omega (arith, h.room)) (omega (arith, h.within, h.enough)))
     ∙ get_or-drop (to + i) d (from - to) 0 in
     rw e at a ∙ sym (get_or-drop from d i 0)
-
--- what stands in its place already is as it would be copied
-pub copy_in_place : (d : List ℕ) (at n : ℕ) → d ≡ paste d at (drop at d) n
-copy_in_place d at n = sym (ap (λ (t : List ℕ). t ++ drop (at + n) d) (sym (take-add at n d)) ∙ take-append-drop (at + n) d)

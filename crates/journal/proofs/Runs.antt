@@ -6,11 +6,11 @@ use mathlib.Core.Option.{Option, none, some}
 use Prim.Native.Nat.{ℕ, zero, suc, ◌+◌, ◌<◌, ◌≤◌}
 use native.Mathlib.Nat.{not-suc-le-zero}
 use native.Mathlib.Omega.{arith}
-use borrow.Author.Tests.{eqb-false, ltb-false, eq-eqb, ne_eqb, lt-ltb, le-ltb}
+use borrow.Author.Tests.{eqb-false, ltb-false, ne_eqb, lt-ltb, le-ltb}
 use lib.Dec.{eqb, ltb, T}
-use lib.ListN.{length, get_or, drop, length-drop}
+use lib.ListN.{length, get_or, take, drop, length-drop}
 use Rattle.journal.specs.Entry.{Entry, body_length_of, head_bytes}
-use Rattle.journal.specs.Held.{first_size, first_entry, in_front, up_to, entries, is_some}
+use Rattle.journal.specs.Held.{first_size, first_entry, in_front, up_to, entries, held, is_some}
 
 -- a whole entry stands first
 pub record Whole (xs : List ℕ) : Type 0 where
@@ -24,19 +24,6 @@ both_false false true n h = absurd (not-suc-le-zero h)
 both_false false false n h = (refl, refl)
 
 module _ (xs : List ℕ) where
-  -- the three ways of a first entry
-  pub size_unknown : body_length_of (get_or xs 0 0) ≡ 0 → first_size xs ≡ 0
-  unfolding first_size
-  size_unknown e = simp (eq-eqb (body_length_of (get_or xs 0 0)) 0 e)
-
-  pub size-cut : length xs < head_bytes + body_length_of (get_or xs 0 0) → first_size xs ≡ 0
-  unfolding first_size
-  size-cut l = rw (lt-ltb _ _ l) (same (eqb (body_length_of (get_or xs 0 0)) 0))
-    where
-      same : (p : Bool) → ◌≡◌ {A = ℕ} (cond p 0 0) 0
-      same true = refl
-      same false = refl
-
   pub size-whole : (body_length_of (get_or xs 0 0) ≡ 0 → ⊥) → head_bytes + body_length_of (get_or xs 0 0) ≤ length xs → first_size xs ≡ head_bytes + body_length_of (get_or xs 0 0)
   unfolding first_size
   size-whole h l = simp (ne_eqb (body_length_of (get_or xs 0 0)) 0 h, le-ltb (length xs) (head_bytes + body_length_of (get_or xs 0 0)) l)
@@ -116,3 +103,12 @@ run_ends xs l e =
 pub run_some : (o : Option (List Entry)) → is_some o ≡ true → (es : List Entry) × (o ≡ some es)
 run_some none h = absurd (subst T (sym h) tt)
 run_some (some es) h = (es, refl)
+
+-- what the used bytes hold, by whether they are within the buffer
+pub held_past : (used : ℕ) (b : List ℕ) → length b < used → is_some (held used b) ≡ false
+unfolding held
+held_past used b h = rw (lt-ltb (length b) used h)
+
+pub held_within : (used : ℕ) (b : List ℕ) → used ≤ length b → held used b ≡ entries (take used b)
+unfolding held
+held_within used b h = rw (le-ltb (length b) used h)

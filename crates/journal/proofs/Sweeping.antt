@@ -7,16 +7,19 @@ use Prim.Native.Nat.{ℕ, ◌+◌, ◌-◌, ◌<◌, ◌≤◌}
 use native.Mathlib.Omega.{arith}
 use borrow.Author.Tests.{ltb-false}
 use lib.Dec.{ltb, T}
-use lib.ListN.{length, get_or, take, drop, length-append, length-take, length-drop}
-use lib.Seq.{paste, take_at, drop_at, take-take, drop-drop}
-use Rattle.journal.specs.Entry.{Entry, entry_bytes, log_bytes}
+use lib.ListN.{length, get_or, take, drop, length-append, length-take, length-drop, take-append-drop}
+use Rattle.std.proofs.lemmas.List.{take_rest}
+use lib.Seq.{paste, take_at, drop_at, drop-drop, get_or-drop, take-add}
+use Rattle.journal.specs.Entry.{Entry, body_length_of, head_bytes, entry_bytes, log_bytes}
 use Rattle.journal.specs.Held.{first_size, first_entry, entries, held, is_some}
 use Rattle.journal.specs.Retention.{is_kept, keep}
 use Rattle.journal.specs.Compaction.{kept_bytes}
-use Rattle.journal.proofs.Views.{view, view-length, view_at, view-take, view_same, view-next}
-use Rattle.journal.proofs.Runs.{Head, whole, entries_head, entries_none, run_some}
+use Rattle.journal.proofs.Runs.{Head as Parts, whole, entries_head, entries_none, run_some}
+use Rattle.journal.proofs.Heads.{has_body}
 use Rattle.journal.proofs.EntryBytes.{first-bytes}
-use Rattle.journal.proofs.Scanning.{whole_at, view_end}
+use Rattle.journal.specs.declared.format.Head.{Head}
+use Rattle.journal.specs.Kind.{kind_number}
+use Rattle.journal.specs.Head.{HeadsFirst}
 
 -- used bytes that are a run are within the buffer
 inside : (t : Bool) (o : Option (List Entry)) → is_some (cond t none o) ≡ true → t ≡ false
@@ -46,43 +49,55 @@ module _ (day : ℕ) (e : Entry) (es : List Entry) where
   unfolding keep
   keep-young h = rw h
 
-pub record Sweeping (day used : ℕ) (b₀ : List ℕ) (at to : ℕ) (b : List ℕ) : Type 0 where
+pub record Sweeping (day : ℕ) (b₀ : List ℕ) (at to : ℕ) (b : List ℕ) : Type 0 where
   pub small : (k : ℕ) → get_or b₀ k 0 < 256
-  pub room : used ≤ length b₀
-  pub within : at ≤ used
+  pub within : at ≤ length b₀
   pub behind : to ≤ at
   pub front : List ℕ
   pub rest : List Entry
   pub count : length front ≡ to
   pub is : b ≡ front ++ drop to b₀
-  pub left : entries (view at used b₀) ≡ some rest
-  pub all : front ++ log_bytes (keep day rest) ≡ kept_bytes day (held used b₀)
+  pub left : entries (drop at b₀) ≡ some rest
+  pub all : front ++ log_bytes (keep day rest) ≡ kept_bytes day (entries b₀)
 
-pub sweep-none : (day used : ℕ) (b₀ : List ℕ) → ((k : ℕ) → get_or b₀ k 0 < 256) → is_some (held used b₀) ≡ true → Sweeping day used b₀ 0 0 b₀
-sweep-none day used b₀ small h =
-    let r = held_some used b₀ h in
-    let p = held-parts used b₀ r.0 r.1 in
+pub sweep_none : (day : ℕ) (b₀ : List ℕ) → ((k : ℕ) → get_or b₀ k 0 < 256) → is_some (entries b₀) ≡ true → Sweeping day b₀ 0 0 b₀
+sweep_none day b₀ small h =
+    let r = run_some (entries b₀) h in
     record {
       small = small;
-      room = p.room;
       within = omega arith;
       behind = omega arith;
       front = [];
       rest = r.0;
       count = refl;
       is = refl;
-      left = p.is;
+      left = r.1;
       all = ap (kept_bytes day) (sym r.1);
     }
 
-module _ {day used : ℕ} {b₀ : List ℕ} {at to : ℕ} {b : List ℕ} (s : Sweeping day used b₀ at to b) where
+-- where no entry is first, no entry is left
+none_left : (xs : List ℕ) (es : List Entry) → entries xs ≡ some es → first_size xs ≡ 0 → es ≡ []
+none_left [] es h z = let n : some es ≡ some [] = sym h ∙ entries_none in cc
+none_left (x ∷ xs) es h z = let p = (entries_head (x ∷ xs) es (omega arith) h).size in absurd (omega (arith, p, z))
+
+-- the head of an entry says whether it stays
+kept_any : (day : ℕ) (e : Entry) → is_kept day (record { kind = e.kind; day = e.day; body = [] }) ≡ is_kept day e
+unfolding is_kept
+kept_any day e = refl
+
+pub kept_head : (day : ℕ) (xs : List ℕ) (head : Head) → HeadsFirst xs head → is_kept day (record { kind = kind_number head.kind; day = head.day; body = [] }) ≡ is_kept day (first_entry xs)
+kept_head day xs head h = ap₂ (λ (k d : ℕ). is_kept day (record { kind = k; day = d; body = [] })) (sym h.kind) (sym h.day) ∙ kept_any day (first_entry xs)
+
+-- what stands in its place already is as it would be copied
+in_place : (b : List ℕ) (at n : ℕ) → b ≡ paste b at (drop at b) n
+in_place b at n = sym (ap (λ (t : List ℕ). t ++ drop (at + n) b) (sym (take-add at n b)) ∙ take-append-drop (at + n) b)
+
+module _ {day : ℕ} {b₀ : List ℕ} {at to : ℕ} {b : List ℕ} (s : Sweeping day b₀ at to b) where
   -- the buffer keeps its length, and from `to` on its bytes
-  pub sweep-length : length b ≡ length b₀
-  sweep-length =
+  pub sweep_length : length b ≡ length b₀
+  sweep_length =
       let d = length-drop to b₀ in
-      ap length s.is
-      ∙ length-append s.front (drop to b₀)
-      ∙ omega (arith, s.count, s.behind, s.within, s.room, d)
+      ap length s.is ∙ length-append s.front (drop to b₀) ∙ omega (arith, s.count, s.behind, s.within, d)
 
   tail_same : (k : ℕ) → drop (to + k) b ≡ drop (to + k) b₀
   tail_same k =
@@ -90,96 +105,89 @@ module _ {day used : ℕ} {b₀ : List ℕ} {at to : ℕ} {b : List ℕ} (s : Sw
       ∙ ap (drop k) (ap (drop to) s.is ∙ drop_at s.front (drop to b₀) to s.count)
       ∙ drop-drop k to b₀
 
-  here_same : drop at b ≡ drop at b₀
+  pub here_same : take (length b - at) (drop at b) ≡ drop at b₀
   here_same =
       let e : to + (at - to) ≡ at = omega (arith, s.behind) in
-      rw e at (tail_same (at - to))
+      take_rest b at ∙ rw e at (tail_same (at - to))
 
-  view-kept_bytes : view at used b ≡ view at used b₀
-  view-kept_bytes = view_same at used b b₀ s.within (rw sweep-length s.room) s.room here_same
-
-  pub sweep_done : used ≤ at → (to ≡ length (kept_bytes day (held used b₀))) × (b ≡ kept_bytes day (held used b₀) ++ drop (length (kept_bytes day (held used b₀))) b₀)
+  pub sweep_done : first_size (take (length b - at) (drop at b)) ≡ 0 → (to ≡ length (kept_bytes day (entries b₀))) × (b ≡ kept_bytes day (entries b₀) ++ drop (length (kept_bytes day (entries b₀))) b₀)
   unfolding keep log_bytes
-  sweep_done l =
-      let n : some s.rest ≡ some [] = sym s.left ∙ ap entries (view_end at used b₀ s.within s.room l) ∙ entries_none in
-      let r : s.rest ≡ [] = cc in
-      let f : s.front ≡ kept_bytes day (held used b₀) =
+  sweep_done z =
+      let r : s.rest ≡ [] = none_left (drop at b₀) s.rest s.left (ap first_size (sym here_same) ∙ z) in
+      let f : s.front ≡ kept_bytes day (entries b₀) =
       sym (append-nil s.front) ∙ ap (λ (es : List Entry). s.front ++ log_bytes (keep day es)) (sym r) ∙ s.all in
-      let c : to ≡ length (kept_bytes day (held used b₀)) = sym s.count ∙ ap length f in
+      let c : to ≡ length (kept_bytes day (entries b₀)) = sym s.count ∙ ap length f in
       (c, s.is ∙ ap₂ (λ (x : List ℕ) (n : ℕ). x ++ drop n b₀) f c)
 
-  module _ (l : at < used) (size : ℕ) (is : size ≡ first_size (view at used b)) where
-    size_is : size ≡ first_size (view at used b₀)
-    size_is = is ∙ ap first_size view-kept_bytes
+  module _ (head : Head) (h : HeadsFirst (take (length b - at) (drop at b)) head) (size : ℕ) (is : size ≡ head_bytes + body_length_of (kind_number head.kind)) where
+    first : HeadsFirst (drop at b₀) head
+    first = subst (λ (l : List ℕ). HeadsFirst l head) here_same h
 
-    head : Head (view at used b₀) s.rest
-    head =
-        entries_head (view at used b₀) s.rest (rw (view-length at used b₀ s.within s.room) (omega arith))
-        s.left
+    first_is : first_size (drop at b₀) ≡ size
+    first_is = first.size ∙ sym is
 
-    pub sweep-bound : (5 < size) × (at + size ≤ used)
-    sweep-bound = rw size_is (whole_at at used b₀ s.within s.room head.size)
+    pub sweep_bound : (5 < size) × (at + size ≤ length b₀)
+    sweep_bound =
+        let l = length-drop at b₀ in
+        (omega (arith, has_body head.kind, is), omega (arith, first.whole, first_is, l, s.within, is))
 
-    left-next : entries (view (at + size) used b₀) ≡ some head.rest
-    left-next =
-        ap (λ (n : ℕ). entries (view (at + n) used b₀)) size_is
-        ∙ ap entries (sym (view-next at (first_size (view at used b₀)) used b₀))
-        ∙ head.left
+    parts : Parts (drop at b₀) s.rest
+    parts = let l = length-drop at b₀ in entries_head (drop at b₀) s.rest (omega (arith, sweep_bound.0, sweep_bound.1, l)) s.left
+
+    left_next : entries (drop (at + size) b₀) ≡ some parts.rest
+    left_next = ap entries (sym (drop-drop size at b₀) ∙ ap (λ (n : ℕ). drop n (drop at b₀)) (sym first_is)) ∙ parts.left
 
     -- an entry that is too old is passed over
-    pub sweep-drop : is_kept day (first_entry (view at used b)) ≡ false → Sweeping day used b₀ (at + size) to b
-    sweep-drop h =
-        let h₀ : is_kept day (first_entry (view at used b₀)) ≡ false = rw view-kept_bytes at h in
+    pub sweep_drop : is_kept day (record { kind = kind_number head.kind; day = head.day; body = [] }) ≡ false → Sweeping day b₀ (at + size) to b
+    sweep_drop k =
+        let e : is_kept day (first_entry (drop at b₀)) ≡ false = sym (kept_head day _ head first) ∙ k in
         record {
           small = s.small;
-          room = s.room;
-          within = sweep-bound.1;
+          within = sweep_bound.1;
           behind = omega (arith, s.behind);
           front = s.front;
-          rest = head.rest;
+          rest = parts.rest;
           count = s.count;
           is = s.is;
-          left = left-next;
-          all =
-              ap (λ (es : List Entry). s.front ++ log_bytes es) (sym (ap (keep day) head.is ∙ keep_old day _ _ h₀)) ∙ s.all;
+          left = left_next;
+          all = ap (λ (es : List Entry). s.front ++ log_bytes es) (sym (ap (keep day) parts.is ∙ keep_old day _ _ e)) ∙ s.all;
         }
 
     -- the bytes of the entry at `at`
-    bytes_here : take size (drop at b) ≡ entry_bytes (first_entry (view at used b₀))
+    bytes_here : take size (drop at b) ≡ entry_bytes (first_entry (drop at b₀))
     bytes_here =
-        let w = whole (view at used b₀) head.size in
-        let v = view-length at used b₀ s.within s.room in
-        let t : take size (view at used b₀) ≡ take size (drop at b₀) =
-        ap (take size) (view-take at used b₀ s.within s.room) ∙ take-take size (used - at) (drop at b₀) (omega (arith, sweep-bound.1)) in
-        ap (take size) here_same
-        ∙ sym t
-        ∙ ap (λ (n : ℕ). take n (view at used b₀)) (size_is ∙ w.size)
-        ∙ sym
-        (first-bytes (view at used b₀)
-        (λ k h. rw (view_at at used b₀ s.within s.room k (omega (arith, sweep-bound.0, sweep-bound.1))) (s.small (at + k)))
-        (omega (arith, w.fits)))
+        let w = whole (drop at b₀) (omega (arith, first_is, sweep_bound.0)) in
+        ap (take size) (sym (take_rest b at) ∙ here_same)
+        ∙ ap (λ (n : ℕ). take n (drop at b₀)) (sym first_is ∙ w.size)
+        ∙ sym (first-bytes (drop at b₀) (λ k l. rw (get_or-drop at b₀ k 0) (s.small (at + k))) (omega (arith, w.fits)))
 
-    -- one that is_kept is moved down
-    pub sweep-keep : is_kept day (first_entry (view at used b)) ≡ true → Sweeping day used b₀ (at + size) (to + size) (paste b to (drop at b) size)
+    -- one that stays is moved down
+    pub sweep_keep : is_kept day (record { kind = kind_number head.kind; day = head.day; body = [] }) ≡ true → (b₁ : List ℕ) → b₁ ≡ paste b to (drop at b) (at + size - at) → Sweeping day b₀ (at + size) (to + size) b₁
     unfolding log_bytes
-    sweep-keep h =
-        let h₀ : is_kept day (first_entry (view at used b₀)) ≡ true = rw view-kept_bytes at h in
-        let e = first_entry (view at used b₀) in
+    sweep_keep k b₁ eb =
+        let k₀ : is_kept day (first_entry (drop at b₀)) ≡ true = sym (kept_head day _ head first) ∙ k in
+        let e = first_entry (drop at b₀) in
+        let d : at + size - at ≡ size = omega arith in
         let f : take to b ≡ s.front = ap (take to) s.is ∙ take_at s.front (drop to b₀) to s.count in
         let n : length (entry_bytes e) ≡ size =
-        ap length (sym bytes_here) ∙ simp (length-take, length-drop) (omega (arith, sweep-bound.1, s.room, sweep-length)) in
+        ap length (sym bytes_here) ∙ simp (length-take, length-drop) (omega (arith, sweep_bound.1, sweep_length)) in
         record {
           small = s.small;
-          room = s.room;
-          within = sweep-bound.1;
+          within = sweep_bound.1;
           behind = omega (arith, s.behind);
           front = s.front ++ entry_bytes e;
-          rest = head.rest;
+          rest = parts.rest;
           count = length-append s.front (entry_bytes e) ∙ ap₂ ◌+◌ s.count n;
-          is = rw (f, bytes_here, tail_same size);
-          left = left-next;
+          is = eb ∙ rw (d, f, bytes_here, tail_same size);
+          left = left_next;
           all =
-              append_assoc s.front (entry_bytes e) (log_bytes (keep day head.rest))
-              ∙ ap (λ (es : List Entry). s.front ++ log_bytes es) (sym (ap (keep day) head.is ∙ keep-young day _ _ h₀))
+              append_assoc s.front (entry_bytes e) (log_bytes (keep day parts.rest))
+              ∙ ap (λ (es : List Entry). s.front ++ log_bytes es) (sym (ap (keep day) parts.is ∙ keep-young day _ _ k₀))
               ∙ s.all;
         }
+
+    -- one that stays and stands in its place is as if it were moved
+    pub sweep_in_place : is_kept day (record { kind = kind_number head.kind; day = head.day; body = [] }) ≡ true → at ≤ to → Sweeping day b₀ (at + size) (to + size) b
+    sweep_in_place k l =
+        let e : at ≡ to = omega (arith, s.behind) in
+        sweep_keep k b (in_place b to (at + size - at) ∙ ap (λ (n : ℕ). paste b to (drop n b) (at + size - at)) (sym e))

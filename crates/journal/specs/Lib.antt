@@ -7,3 +7,6 @@ pub mod Add
 pub mod Sweep
 pub mod Compaction
 pub mod Next
+pub mod Kind
+pub mod Head
+pub mod Replies

@@ -1,48 +1,51 @@
 // Adding an entry behind the used bytes.
-ghost use Rattle.std.specs.Prelude.{◌≡◌};
+ghost use Rattle.std.specs.Prelude.{◌≡◌, ◌+◌, ◌≤◌, IfOk, length};
+ghost use Rattle.refusals.specs.Outcomes.{outcome_number};
+ghost use Rattle.journal.specs.Entry.{head_bytes};
 ghost use Rattle.journal.specs.Outcome.{LogOutcome};
 ghost use Rattle.journal.specs.Add.{log_add_refusal, log_add_of};
+ghost use Rattle.journal.specs.Kind.{kind_number};
+ghost use Rattle.journal.specs.Replies.{log_reply};
 
-use crate::LogReply;
-use crate::copy::put;
-use crate::format::{HEAD_BYTES, body_length, entry_head, is_log};
-use refusals::{BROKEN_LOG, NO_ROOM, WRONG_LENGTH, WRONG_TAG};
+use crate::format::{HEAD_BYTES, Head, check_log};
+use crate::kind::Kind;
+use refusals::Refusal;
 
-// The number of the first test that fails, 0 for none.
-fn add_refusal(kind: u32, body: &[u8], used: usize, buffer: &[u8]) -> u8
-    ensures { result ≡ log_add_refusal kind body.now used buffer.now }
+// The kind of the entry, if it is one that the log has, the body is as long as it says, and the entry fits behind the used bytes.
+#[tactic(auto, unfolding(crate::specs::Add::log_add_refusal, crate::specs::Add::entry_test), using(refusals::proofs::Outcomes::refused_first, refusals::proofs::Outcomes::passed_first, crate::proofs::Calls::run_room, crate::proofs::Heads::has_body))]
+fn check_add(kind: u32, body: &[u8], used: usize, buffer: &[u8]) -> Result<Kind, Refusal>
+    ensures number { outcome_number result ≡ log_add_refusal kind body.now used buffer.now }
+    ensures kind { IfOk result (λ known. kind ≡ kind_number known) }
+    ensures room { IfOk result (λ _. used + head_bytes + length body.now ≤ length buffer.now) }
 {
-    if !is_log(used, buffer) {
-        return BROKEN_LOG;
+    check_log(used, buffer)?;
+    let known = Kind::try_from(kind)?;
+    if body.len() != known.body_length() {
+        return Err(Refusal::WrongLength);
     }
-    let length = body_length(kind);
-    if length == 0 {
-        return WRONG_TAG;
+    if buffer.len() - used < HEAD_BYTES + body.len() {
+        return Err(Refusal::NoRoom);
     }
-    if body.len() != length {
-        return WRONG_LENGTH;
-    }
-    if buffer.len() - used < HEAD_BYTES + length {
-        return NO_ROOM;
-    }
-    0
+    Ok(known)
 }
 
-// Writes an entry behind the used bytes, or refuses and changes nothing.
-pub fn add(kind: u32, day: u32, body: &[u8], used: usize, buffer: &mut [u8]) -> LogReply
-    ensures { record { reply = result; buffer = buffer.new } ≡ log_add_of kind day body.now used buffer.old }
+// Writes an entry behind the used bytes, or refuses and changes nothing. Answers the count of used bytes after it. The kind stays a number, since the C
+// interface has numbers, and one that is no kind is refused.
+#[tactic(auto, using(crate::proofs::Calls::add_refused, crate::proofs::Calls::add_written))]
+pub fn add(
+    kind: u32,
+    day: u32,
+    body: &[u8],
+    used: usize,
+    buffer: &mut [u8],
+) -> Result<usize, Refusal>
+    ensures { record { reply = log_reply result; buffer = buffer.new } ≡ log_add_of kind day body.now used buffer.old }
 {
-    let number = add_refusal(kind, body, used, buffer);
-    if number != 0 {
-        return LogReply { number, used: 0 };
-    }
-    let head = entry_head(kind as u8, day);
-    put(&head, used, buffer);
+    let kind = check_add(kind, body, used, buffer)?;
+    let head = Head { kind, day };
     let at = used + HEAD_BYTES;
-    put(body, at, buffer);
     let end = at + body.len();
-    LogReply {
-        number: 0,
-        used: end,
-    }
+    buffer[used..at].copy_from_slice(&head.bytes());
+    buffer[at..end].copy_from_slice(body);
+    Ok(end)
 }

@@ -1,7 +1,7 @@
 -- A word is put into 12 columns from the right: what the columns hold while digits are put, when all are, and what the sign makes of them. Assumes nothing.
 use mathlib.Core.Path.{◌≡◌, sym, ap, ap₂, ◌∙◌, subst}
 use mathlib.Core.Bool.{true, false}
-use mathlib.Core.List.{List, [], ◌∷◌, ◌++◌, append_assoc, append-nil}
+use mathlib.Core.List.{List, [], ◌∷◌, ◌++◌, append_assoc}
 use Prim.Native.Nat.{ℕ, zero, suc, ◌-◌, ◌/◌, ◌^◌, ◌≤◌, ◌<◌}
 use native.Mathlib.Nat.{not-suc-le-zero, lt_of_lt_of_le, pow-le-pow_right}
 use native.Mathlib.Omega.{arith}
@@ -32,17 +32,6 @@ pub record Spelled (m at : ℕ) (columns : List ℕ) : Type 0 where
   pub high : at ≤ 11
   pub blanks : take at columns ≡ replicate at blank
   pub digits : drop at columns ≡ decimalℕ m
-
-pub spell_none : (m : ℕ) (columns : List ℕ) → m < 10 ^ 10 → columns ≡ replicate 12 blank → Spelling m m 12 columns
-spell_none m columns h e =
-    record {
-      size = ap length e;
-      low = omega arith;
-      high = omega arith;
-      left = h;
-      blanks = ap (take 12) e;
-      tail = ap (λ (l : List ℕ). decimalℕ m ++ drop 12 l) e ∙ append-nil (decimalℕ m);
-    }
 
 -- ---- one digit
 

@@ -1,2 +1,3 @@
 -- What the number of tests in sequence says.
 pub mod Refusals
+pub mod Outcomes

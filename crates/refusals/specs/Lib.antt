@@ -1,2 +1,3 @@
 -- The refusal numbers, the tests that every call shares, and the refusal record.
 pub mod Refusals
+pub mod Outcomes

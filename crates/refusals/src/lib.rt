@@ -1,63 +1,82 @@
-// The refusal numbers, the test of a record's header, and the refusal record.
+// Why calls refuse, the test of a record's header, and the refusal record.
 
 #![tactic(auto)]
 
-ghost use Rattle.std.specs.Prelude.{◌≡◌};
+ghost use Rattle.std.specs.Prelude.{◌≡◌, IfOk};
 ghost use Rattle.refusals.specs.Refusals.{header_test, refusal_record_of};
+ghost use Rattle.refusals.specs.Outcomes.{number_of, outcome_number};
 
-// The numbers by which calls refuse. 0 stands for none.
-pub const WRONG_TAG: u8 = 1;
-
-pub const WRONG_LENGTH: u8 = 2;
-
-pub const SHORT_WORKSPACE: u8 = 3;
-
-pub const NONE_HEARD: u8 = 4;
-
-pub const NO_SUCH_JOB: u8 = 5;
-
-pub const UNFINISHED: u8 = 6;
-
-pub const SHORT_BUFFER: u8 = 7;
-
-pub const NOT_TRIANGULAR: u8 = 8;
-
-pub const NONE_ADDED: u8 = 9;
-
-pub const SUMS_OUT_OF_RANGE: u8 = 10;
-
-pub const ZERO_DIAGONAL: u8 = 11;
-
-pub const NO_SUCH_SECTOR: u8 = 12;
-
-pub const COUNT_USED_UP: u8 = 13;
-
-pub const SHARES_EXCEED_ROUND: u8 = 14;
-
-pub const NOT_ALLOWED: u8 = 15;
-
-pub const BROKEN_LOG: u8 = 16;
-
-pub const NO_ROOM: u8 = 17;
-
-// Tests 1 and 2 of a record that has this tag and this length: the number of the first that fails, 0 for none.
-#[tactic(auto, unfolding(crate::specs::Refusals::header_test))]
-pub fn header_refusal(bytes: &[u8], tag: u8, size: usize) -> u8
-    ensures { result ≡ header_test tag size bytes.now }
-{
-    if bytes.len() == 0 {
-        return WRONG_TAG;
-    }
-    if bytes[0] != tag {
-        return WRONG_TAG;
-    }
-    if bytes.len() != size {
-        return WRONG_LENGTH;
-    }
-    0
+// Why a call refuses. Replies and refusal records carry its number.
+#[derive(Clone, Copy, Debug, PartialEq, Eq)]
+pub enum Refusal {
+    WrongTag,
+    WrongLength,
+    ShortWorkspace,
+    NoneHeard,
+    NoSuchJob,
+    Unfinished,
+    ShortBuffer,
+    NotTriangular,
+    NoneAdded,
+    SumsOutOfRange,
+    ZeroDiagonal,
+    NoSuchSector,
+    CountUsedUp,
+    SharesExceedRound,
+    NotAllowed,
+    BrokenLog,
+    NoRoom,
 }
 
-// The record of a refusal: its tag, and the number.
+impl Refusal {
+    pub fn number(self) -> u8
+        ensures { result ≡ number_of self }
+    {
+        match self {
+            Refusal::WrongTag => 1,
+            Refusal::WrongLength => 2,
+            Refusal::ShortWorkspace => 3,
+            Refusal::NoneHeard => 4,
+            Refusal::NoSuchJob => 5,
+            Refusal::Unfinished => 6,
+            Refusal::ShortBuffer => 7,
+            Refusal::NotTriangular => 8,
+            Refusal::NoneAdded => 9,
+            Refusal::SumsOutOfRange => 10,
+            Refusal::ZeroDiagonal => 11,
+            Refusal::NoSuchSector => 12,
+            Refusal::CountUsedUp => 13,
+            Refusal::SharesExceedRound => 14,
+            Refusal::NotAllowed => 15,
+            Refusal::BrokenLog => 16,
+            Refusal::NoRoom => 17,
+        }
+    }
+}
+
+// The number that a reply carries: that of the refusal, 0 for none.
+pub fn reply_number(outcome: Result<(), Refusal>) -> u8
+    ensures { result ≡ outcome_number outcome }
+{
+    match outcome {
+        Ok(()) => 0,
+        Err(refusal) => refusal.number(),
+    }
+}
+
+// Tests 1 and 2: the record of this tag and of N bytes that the bytes are.
+#[tactic(auto, unfolding(crate::specs::Refusals::header_test))]
+pub fn check_header<const N: usize>(bytes: &[u8], tag: u8) -> Result<&[u8; N], Refusal>
+    ensures number { outcome_number result ≡ header_test tag N bytes.now }
+    ensures same { IfOk result (λ checked. checked.now ≡ bytes.now) }
+{
+    if bytes.first() != Some(&tag) {
+        return Err(Refusal::WrongTag);
+    }
+    bytes.try_into().map_err(|_| Refusal::WrongLength)
+}
+
+// The record of a refusal: its tag, and the number. It takes the number, whatever that is: a `Refusal` would ask more of callers than `refusal_record` does.
 pub fn refusal_record(number: u8) -> [u8; 2]
     ensures { result ≡ refusal_record_of number }
 {

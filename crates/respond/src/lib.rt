@@ -12,13 +12,12 @@ pub fn respond(input: &[u8], output: &mut [u8; result_record::BYTES]) -> usize
     ensures fits { result ≤ length output.new }
 {
     let mut workspace = [0i32; workspace::WORDS];
-    let reply = engine::whole::whole(input, &mut workspace[..], &mut output[..]);
-    let number = reply.number;
-    if number == 0 {
-        return result_record::BYTES;
+    match engine::whole::whole(input, &mut workspace[..], &mut output[..]) {
+        Ok(_) => result_record::BYTES,
+        Err(refusal) => {
+            let record = refusals::refusal_record(refusal.number());
+            output[..2].copy_from_slice(&record);
+            2
+        }
     }
-    let refusal = refusals::refusal_record(number);
-    output[0] = refusal[0];
-    output[1] = refusal[1];
-    2
 }

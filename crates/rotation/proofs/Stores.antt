@@ -1,4 +1,4 @@
--- What the loops of `wide` and `narrow` store and count comes to the rotation: word by word, and column by column. Assumes nothing.
+-- What the loops of the crate `rows` store and count comes to the rotation: word by word, and column by column. Assumes nothing.
 use Prim.Native.Nat.{ℕ, zero, suc, ◌+◌, ◌-◌, ◌*◌, ◌/◌, ◌%◌, ◌≤◌, ◌<◌}
 use native.Mathlib.Nat.{lt_irrefl, le_refl, add-zero, add-suc, add_assoc, div-add-mod'}
 use native.Mathlib.Decide.{ℕ_discrete, dec_lt}
@@ -67,18 +67,18 @@ written_more f base c m zero l = ap (λ (k : ℕ). written f base c k l) (sym (a
 written_more f base c m (suc n) l = rw (add-suc m n, written_more f base c m n l, add_assoc c m n)
 
 -- the leading column and then the others
-pub rows_of : (f : ℕ → Column) (base c : ℕ) (l lead rest : List ℤ) → lead ≡ leading_written (f c).upper base c l → rest ≡ written f base (c + 1) (31 - c) lead → rest ≡ rows_written f base c l
+rows_of : (f : ℕ → Column) (base c : ℕ) (l lead rest : List ℤ) → lead ≡ leading_written (f c).upper base c l → rest ≡ written f base (c + 1) (31 - c) lead → rest ≡ rows_written f base c l
 unfolding rows_written
 rows_of f base c l lead rest d e = e ∙ ap (written f base (c + 1) (31 - c)) d
 
--- the leading column, the others of R, and then those of Q
-pub sides_of : (f : ℕ → Column) (base c : ℕ) (l lead left right : List ℤ) → c < 16 → lead ≡ leading_written (f c).upper base c l
-    → left ≡ written f base (c + 1) (15 - c) lead → right ≡ written f base 16 16 left → right ≡ rows_written f base c l
-sides_of f base c l lead left right h d e g =
-    let q : c + 1 + (15 - c) ≡ 16 = omega arith in
-    let all : 15 - c + 16 ≡ 31 - c = omega arith in
+-- the leading column, the others before column s, and then those from it on
+pub sides_of : (f : ℕ → Column) (base c s : ℕ) (l lead left right : List ℤ) → c < s → s ≤ 32 → lead ≡ leading_written (f c).upper base c l
+    → left ≡ written f base (c + 1) (s - (c + 1)) lead → right ≡ written f base s (32 - s) left → right ≡ rows_written f base c l
+sides_of f base c s l lead left right h k d e g =
+    let q : c + 1 + (s - (c + 1)) ≡ s = omega arith in
+    let all : s - (c + 1) + (32 - s) ≡ 31 - c = omega arith in
     rows_of f base c l lead right d
-    (g ∙ ap (written f base 16 16) e ∙ rw (q, all) at (written_more f base (c + 1) (15 - c) 16 lead))
+    (g ∙ ap (written f base s (32 - s)) e ∙ rw (q, all) at (written_more f base (c + 1) (s - (c + 1)) (32 - s) lead))
 
 -- ---- the words, place by place
 

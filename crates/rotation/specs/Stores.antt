@@ -1,4 +1,4 @@
--- Only the contracts of inner functions of the crates `wide` and `narrow` use this: the columns that their loops hold in two rows apart, and what
+-- Only the contracts of inner functions of the crate `rows` use this: the columns that their loops hold in two rows apart, and what
 -- their loops have stored in the part, whose lower row begins `base` words on, and have counted. `Rotated` says what comes of it. Assumes nothing.
 use Rattle.std.specs.Prelude.{ℕ, zero, suc, ◌+◌, ◌-◌, ◌≤◌, ◌<◌, ◌≡◌, List, ℤ, pos, get_or, set}
 use mir.Val.{bool_byte}

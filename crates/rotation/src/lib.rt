@@ -1,5 +1,5 @@
-// One rotation: what it counts, and what comes of a turn. Their definitions stand in specs/; the crates `wide` and `narrow` make a rotation, and
-// `givens` a turn.
+// One rotation: what it counts, and what comes of a turn. Their definitions stand in specs/; the crate `rows` makes a rotation, in the
+// words of `wide` or of `narrow`, and `givens` a turn.
 
 #![tactic(auto)]
 

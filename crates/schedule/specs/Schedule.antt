@@ -66,6 +66,10 @@ no_rotation = record { column = 0; upper = 0; lower = 0 }
 unfoldable pub rotation_at_of : ℕ → Rotation
 rotation_at_of n = get_or schedule n no_rotation
 
+-- a rotation as three numbers
+abbrev pub triple : Rotation → List ℕ
+triple t = t.column ∷ t.upper ∷ t.lower ∷ []
+
 -- rotations laid out as numbers: column, upper row and lower row of each
 unfoldable pub flat : List Rotation → List ℕ
 flat [] = []

@@ -1,3 +1,3 @@
--- Laws that several proofs cite: on a sum in two parts, and on the pairs of both families.
-pub mod Parts
+-- Laws that several proofs cite on the pairs of both families, and those of sums in two parts.
 pub mod Families
+pub mod Parts

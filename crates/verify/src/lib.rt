@@ -1,19 +1,20 @@
-// Whether a result record factors a matrix record within the limits of demand 3, whoever wrote it. The call tests its own input, in the order that document
-// 02 lists, and refuses by the number of the first test that fails.
+// Whether a result record factors a matrix record within the limits that the engine's own results keep, whoever wrote it. The call makes its own tests of
+// its input, in the order of their definitions, and refuses by the first that fails.
 
 #![tactic(auto)]
 
 mod pairs;
 mod sums;
 
-ghost use Rattle.std.specs.Prelude.{◌≡◌};
-ghost use Rattle.verify.specs.Verify.{verify_refusal_of, verdict_of};
+ghost use Rattle.std.specs.Prelude.{◌≡◌, IfOk};
+ghost use Rattle.refusals.specs.Outcomes.{outcome_number};
+ghost use Rattle.verify.specs.Verify.{verify_refusal_of, verdict_of, verdict};
 
 use pairs::all_near;
-use workspace::loading::fill_from_matrix;
-use workspace::result::fill_from_result;
+use refusals::Refusal;
+use workspace::filling::fill;
 
-// The refusal's number, and 1 for yes. A refusal is neither yes nor no, and has 0.
+// What a C host is answered: the refusal's number, and 1 for yes. A refusal is neither yes nor no, and has 0.
 #[repr(C)]
 #[derive(Clone, Copy)]
 pub struct Verdict {
@@ -21,33 +22,47 @@ pub struct Verdict {
     pub yes: u8,
 }
 
-// The number of the first test that fails, 0 for none.
-#[tactic(auto, unfolding(crate::specs::Verify::verify_refusal_of), using(refusals::proofs::Refusals::first_is))]
-fn verify_refusal(matrix: &[u8], res: &[u8]) -> u8
-    ensures { result ≡ verify_refusal_of matrix.now res.now }
-{
-    let number = matrix_record::record_refusal(matrix);
-    if number != 0 {
-        return number;
+impl From<Result<bool, Refusal>> for Verdict {
+    ghost from_gives = { λ outcome reply. reply ≡ verdict outcome };
+
+    #[tactic(auto, unfolding(crate::specs::Verify::verdict))]
+    fn from(outcome: Result<bool, Refusal>) -> Self {
+        match outcome {
+            Ok(true) => Verdict { number: 0, yes: 1 },
+            Ok(false) => Verdict { number: 0, yes: 0 },
+            Err(refusal) => Verdict {
+                number: refusal.number(),
+                yes: 0,
+            },
+        }
     }
-    result_record::record_refusal(res)
+}
+
+// A matrix record and a result record.
+type Records<'a> = (
+    &'a [u8; matrix_record::BYTES],
+    &'a [u8; result_record::BYTES],
+);
+
+// The records that the bytes are: tests 1, 2 and 4 on the matrix, then 1, 2 and 8 on the result.
+#[tactic(auto, unfolding(crate::specs::Verify::verify_refusal_of), using(refusals::proofs::Outcomes::refused_first, refusals::proofs::Outcomes::passed_first))]
+fn check_verify<'a>(matrix: &'a [u8], res: &'a [u8]) -> Result<Records<'a>, Refusal>
+    ensures number { outcome_number result ≡ verify_refusal_of matrix.now res.now }
+    ensures same { IfOk result (λ checked. (checked.0.now ≡ matrix.now) × (checked.1.now ≡ res.now)) }
+{
+    let input = matrix_record::check_record(matrix)?;
+    let output = result_record::check_record(res)?;
+    Ok((input, output))
 }
 
 // Whether the result's Q and R factor the matrix within the limits, or a refusal.
-pub fn verify(matrix: &[u8], res: &[u8]) -> Verdict
-    ensures { result ≡ verdict_of matrix.now res.now }
+pub fn verify(matrix: &[u8], res: &[u8]) -> Result<bool, Refusal>
+    ensures { verdict result ≡ verdict_of matrix.now res.now }
 {
-    let number = verify_refusal(matrix, res);
-    if number != 0 {
-        return Verdict { number, yes: 0 };
-    }
-    let mut loaded = [0i32; 512];
-    fill_from_matrix(matrix, &mut loaded[..]);
-    let mut words = [0i32; 512];
-    fill_from_result(res, &mut words[..]);
-    if all_near(&words, &loaded) {
-        Verdict { number, yes: 1 }
-    } else {
-        Verdict { number, yes: 0 }
-    }
+    let (input, output) = check_verify(matrix, res)?;
+    let mut loaded = [0; 512];
+    fill(input, &mut loaded[..]);
+    let mut words = [0; 512];
+    fill(output, &mut words[..]);
+    Ok(all_near(&words, &loaded))
 }

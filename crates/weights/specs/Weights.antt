@@ -1,8 +1,10 @@
 -- Document 02, U4: the weights of a result record and eight targets, and what the call answers, on all inputs. Assumes nothing.
-use Rattle.std.specs.Prelude.{ℕ, zero, suc, ◌+◌, Bool, not, List, Float}
+use Rattle.std.specs.Prelude.{ℕ, zero, suc, ◌+◌, Bool, not, List, Float, Result, Ok, Err}
 use Rattle.integers.specs.Matrix.{Matrix, is_zero}
 use Rattle.lists.specs.Lists.{tabulate, all_below}
 use Rattle.refusals.specs.Refusals.{first, fails_unless, zero_diagonal}
+use Rattle.refusals.specs.declared.Refusal.{Refusal}
+use Rattle.refusals.specs.Outcomes.{number_of}
 use Rattle.result_record.specs.ResultRecord.{record_r, record_q, record_refusal_of}
 use Rattle.covariance.specs.declared.Sample.{Sample}
 use Rattle.weights.specs.declared.Weight.{Weight}
@@ -31,3 +33,8 @@ weights_by (suc n) rec targets = record { number = suc n; weights = weights_from
 
 unfoldable pub weights_of : List ℕ → List Sample → WeightsReply
 weights_of rec targets = weights_by (weights_refusal_of rec) rec targets
+
+-- the reply that is made of weights or a refusal
+unfoldable pub weights_reply : Result (List Weight) Refusal → WeightsReply
+weights_reply (Ok weights) = record { number = 0; weights = weights }
+weights_reply (Err refusal) = record { number = number_of refusal; weights = weights_from (λ j. zero_float) }

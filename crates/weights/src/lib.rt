@@ -1,18 +1,20 @@
-// Weights for the modem: R times w = Q transposed times the target, solved in 64-bit floats from row 15 up. The call tests its own input, in the order that
-// document 02 lists, and refuses by the number of the first test that fails.
+// Weights for the modem: R times w = Q transposed times the target, solved in 64-bit floats from row 15 up. The call makes its own tests of
+// its input, in the order of their definitions, and refuses by the first that fails.
 
 #![tactic(auto)]
 
-mod right;
-mod rows;
+mod system;
 
-ghost use Rattle.std.specs.Prelude.{◌≡◌, ◌<◌, length};
-ghost use Rattle.result_record.specs.ResultRecord.{result_bytes, record_r};
+ghost use Rattle.std.specs.Prelude.{◌≡◌, IfOk};
+ghost use Rattle.refusals.specs.Outcomes.{outcome_number};
+ghost use Rattle.result_record.specs.ResultRecord.{record_r};
 ghost use Rattle.weights.specs.Solution.{component_of};
-ghost use Rattle.weights.specs.Weights.{weight_of, weights_from, diagonal_nonzero_of, weights_refusal_of, weights_of};
+ghost use Rattle.weights.specs.Weights.{weights_from, diagonal_nonzero_of, weights_refusal_of, weights_of, weights_reply};
 
 use covariance::Sample;
+use refusals::Refusal;
 use result_record::r;
+use system::System;
 
 // A weight, a complex number.
 #[repr(C)]
@@ -22,7 +24,10 @@ pub struct Weight {
     pub im: f64,
 }
 
-// The refusal's number and the weights, which are +0.0 in a refusal.
+// What stands for a weight in a refusal.
+const NO_WEIGHT: Weight = Weight { re: 0.0, im: 0.0 };
+
+// What a C host is answered: the refusal's number and the weights, which are +0.0 in a refusal.
 #[repr(C)]
 #[derive(Clone, Copy)]
 pub struct WeightsReply {
@@ -30,78 +35,64 @@ pub struct WeightsReply {
     pub weights: [Weight; 8],
 }
 
-// Weight k: components k and 8 + k.
-fn weight_at(x: &[f64; 16], k: usize) -> Weight
-    requires { k < 8 }
-    ensures { result ≡ weight_of (component_of x.now) k }
-{
-    let re = x[k];
-    let im = x[8 + k];
-    Weight { re, im }
+impl From<Result<[Weight; 8], Refusal>> for WeightsReply {
+    ghost from_gives = { λ outcome reply. reply ≡ weights_reply outcome };
+
+    fn from(outcome: Result<[Weight; 8], Refusal>) -> Self {
+        match outcome {
+            Ok(weights) => WeightsReply { number: 0, weights },
+            Err(refusal) => WeightsReply {
+                number: refusal.number(),
+                weights: [NO_WEIGHT; 8],
+            },
+        }
+    }
 }
 
-// All eight.
-#[tactic(auto, unfolding(lists::specs::Lists::tabulate))]
+// All eight weights: weight k is components k and 8 + k.
 fn all_weights(x: &[f64; 16]) -> [Weight; 8]
     ensures { result ≡ weights_from (component_of x.now) }
 {
-    [
-        weight_at(x, 0),
-        weight_at(x, 1),
-        weight_at(x, 2),
-        weight_at(x, 3),
-        weight_at(x, 4),
-        weight_at(x, 5),
-        weight_at(x, 6),
-        weight_at(x, 7),
-    ]
+    let mut weights = [NO_WEIGHT; 8];
+    for k in 0..8 {
+        weights[k] = Weight {
+            re: x[k],
+            im: x[8 + k],
+        };
+    }
+    weights
 }
 
 // Whether no word on R's diagonal is 0.
-fn diagonal_nonzero(bytes: &[u8]) -> bool
-    requires { length bytes.now ≡ result_bytes }
+fn diagonal_nonzero(bytes: &[u8; result_record::BYTES]) -> bool
     ensures { result ≡ diagonal_nonzero_of (record_r bytes.now) }
 {
-    let mut i = 0;
-    while i < 16 {
+    for i in 0..16 {
         if r(bytes, i, i) == 0 {
             return false;
         }
-        i += 1;
     }
     true
 }
 
-// The number of the first test that fails, 0 for none.
-#[tactic(auto, unfolding(crate::specs::Weights::weights_refusal_of), using(refusals::proofs::Refusals::first_is))]
-fn weights_refusal(bytes: &[u8]) -> u8
-    ensures { result ≡ weights_refusal_of bytes.now }
+// The result record that the bytes are, if it has weights.
+#[tactic(auto, unfolding(crate::specs::Weights::weights_refusal_of), using(refusals::proofs::Outcomes::refused_first, refusals::proofs::Outcomes::passed_first))]
+fn check_weights(bytes: &[u8]) -> Result<&[u8; result_record::BYTES], Refusal>
+    ensures number { outcome_number result ≡ weights_refusal_of bytes.now }
+    ensures same { IfOk result (λ checked. checked.now ≡ bytes.now) }
 {
-    let number = result_record::record_refusal(bytes);
-    if number != 0 {
-        return number;
+    let checked = result_record::check_record(bytes)?;
+    if !diagonal_nonzero(checked) {
+        return Err(Refusal::ZeroDiagonal);
     }
-    if !diagonal_nonzero(bytes) {
-        return refusals::ZERO_DIAGONAL;
-    }
-    0
+    Ok(checked)
 }
 
 // The weights of a result record for eight targets, or a refusal.
-pub fn weights(bytes: &[u8], targets: [Sample; 8]) -> WeightsReply
-    ensures { result ≡ weights_of bytes.now targets }
+pub fn weights(bytes: &[u8], targets: [Sample; 8]) -> Result<[Weight; 8], Refusal>
+    ensures { weights_reply result ≡ weights_of bytes.now targets }
 {
-    let number = weights_refusal(bytes);
-    if number != 0 {
-        let zeros = [0.0; 16];
-        let none = all_weights(&zeros);
-        return WeightsReply {
-            number,
-            weights: none,
-        };
-    }
-    let parts = right::target_parts(targets);
-    let x = rows::solution(bytes, &parts);
-    let weights = all_weights(&x);
-    WeightsReply { number, weights }
+    let checked = check_weights(bytes)?;
+    let x = System::new(checked, targets).solution();
+    Ok(all_weights(&x))
 }

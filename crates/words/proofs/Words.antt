@@ -9,7 +9,7 @@ use lib.IntN.{ℤ}
 use mir.Syntax.{w16, w32}
 use mir.Val.{SFits, to_z, of_z}
 use mir.Facts.{to_z-of_z, of_z-to_z, Fits-of_z}
-use Rattle.words.specs.Words.{int16, int16_byte, int16_bytes_of, uint32, uint32_bytes_of, int32, byte_of, word_bytes}
+use Rattle.words.specs.Words.{int16, int16_byte, uint32, uint32_bytes_of, int32, byte_of}
 
 -- ---- 16 bits
 
@@ -18,10 +18,6 @@ int16_again z f = ap (to_z w16) (two_digits (of_z w16 z) (Fits-of_z f).fits) ∙
   where
     two_digits : (n : ℕ) → n < 65536 → n / 256 % 256 * 256 + n / 1 % 256 ≡ n
     two_digits n h = let t : n / 256 < 256 = omega arith in rw (div-one n, mod-eq_of_lt t) (div-add-mod' n 256)
-
--- the two digits of a number's bits are its bytes
-pub int16-bytes_are : (n : ℕ) (z : ℤ) → n ≡ of_z w16 z → n < 65536 → (n / 256 ∷ n % 256 ∷ []) ≡ int16_bytes_of z
-int16-bytes_are n z e h = let t : n / 256 < 256 = omega arith in rw (← e, mod-eq_of_lt t, div-one)
 
 -- ---- 32 bits
 
@@ -42,10 +38,6 @@ digits n h = let t : n / 16777216 < 256 = omega arith in rw (mod-eq_of_lt t, div
 
 pub word_again : (z : ℤ) → SFits w32 z → int32 (byte_of z 0) (byte_of z 1) (byte_of z 2) (byte_of z 3) ≡ z
 word_again z f = ap (to_z w32) (digits (of_z w32 z) (Fits-of_z f).fits) ∙ to_z-of_z f
-
--- the four digits of a word's bits are its bytes
-pub bytes_are : (n : ℕ) (z : ℤ) → n ≡ of_z w32 z → n < 4294967296 → uint32_bytes_of n ≡ word_bytes z
-bytes_are n z e h = let t : n / 16777216 < 256 = omega arith in rw (← e, mod-eq_of_lt t, div-one)
 
 -- byte q of four
 abbrev pub one_of : ℕ → ℕ → ℕ → ℕ → ℕ → ℕ

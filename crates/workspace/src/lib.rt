@@ -1,8 +1,9 @@
-// The workspace: 16 rows of 32 words, in which a matrix is loaded, rotated and read out. Words behind the 512 are never touched.
+// The workspace: 16 rows of 32 words, in which a matrix is loaded, rotated and read out. Words behind the 512 are never touched:
+// a longer slice may be lent, so that a type of 512 words would ask more of callers (`take_turns`, `fill`, `write`), and the clauses ask for its length.
 
 #![tactic(auto)]
 
-pub mod loading;
+pub mod filling;
 pub mod result;
 pub mod rotations;
 

@@ -1,20 +1,19 @@
-// The result record of a workspace: written from it, and read into it.
+// The result record of a workspace: whether one can be written, and the writing.
 ghost use Rattle.std.specs.Prelude.{◌≡◌, ◌<◌, ◌≤◌, length};
 ghost use Rattle.lists.specs.Lists.{filled};
 ghost use Rattle.result_record.specs.ResultRecord.{result_bytes, result_byte, is_finished};
 ghost use Rattle.workspace.specs.Workspace.{workspace_words, R, Q};
-ghost use Rattle.workspace.specs.Reading.{read_word_of, read_words};
 ghost use Rattle.workspace.specs.Places.{place_of};
 
 use words::word_bytes;
 
-// Whether the workspace's R is a finished one.
+// Whether the workspace's R is a finished one. One function for it and for a record's `record_finished` would be no plainer: a workspace has rows of 32 words,
+// and is a slice, for which no trait can say that it is long enough.
 pub fn finished(workspace: &[i32]) -> bool
     requires { workspace_words ≤ length workspace.now }
     ensures { result ≡ is_finished (R workspace.now) }
 {
-    let mut k = 0;
-    while k < 256 {
+    for k in 0..256 {
         let i = k / 16;
         let j = k % 16;
         let at = i * 32 + j;
@@ -22,7 +21,6 @@ pub fn finished(workspace: &[i32]) -> bool
         if !result_record::finished_at(i, j, w) {
             return false;
         }
-        k += 1;
     }
     true
 }
@@ -41,8 +39,7 @@ pub fn write(workspace: &[i32], buffer: &mut [u8])
     ensures { buffer.new ≡ filled result_bytes (result_byte (R workspace.now) (Q workspace.now)) buffer.old }
 {
     buffer[0] = result_record::TAG;
-    let mut m = 0;
-    while m < crate::WORDS {
+    for m in 0..crate::WORDS {
         let at = place(m);
         let w = workspace[at];
         let b = word_bytes(w);
@@ -51,33 +48,5 @@ pub fn write(workspace: &[i32], buffer: &mut [u8])
         buffer[p + 1] = b[1];
         buffer[p + 2] = b[2];
         buffer[p + 3] = b[3];
-        m += 1;
-    }
-}
-
-// The word that a record has for position k of the workspace.
-fn read_word(bytes: &[u8], k: usize) -> i32
-    requires { (length bytes.now ≡ result_bytes) × (k < workspace_words) }
-    ensures { result ≡ read_word_of bytes.now k }
-{
-    let i = k / 32;
-    let j = k % 32;
-    if j < 16 {
-        result_record::r(bytes, i, j)
-    } else {
-        result_record::q(bytes, j - 16, i)
-    }
-}
-
-// Fills the workspace's words from a record.
-pub fn fill_from_result(bytes: &[u8], workspace: &mut [i32])
-    requires { (length bytes.now ≡ result_bytes) × (workspace_words ≤ length workspace.old) }
-    ensures { workspace.new ≡ read_words bytes.now workspace.old }
-{
-    let mut k = 0;
-    while k < crate::WORDS {
-        let w = read_word(bytes, k);
-        workspace[k] = w;
-        k += 1;
     }
 }

@@ -169,7 +169,7 @@ fn clauses_and_rows_that_are_gone() {
 
 #[test]
 fn files_that_are_gone() {
-    refuses("edit", "wide::rotate_in has 1 of 2", |copy| {
+    refuses("edit", "wide::Word64Lane::oriented has 1 of 2", |copy| {
         copy.remove("crates/wide/must-fail/oriented_the_other_way.edit");
     });
     refuses("theorem", "T Tails.Tails is nowhere", |copy| {

@@ -1,12 +1,11 @@
--- One more line is put, in the part of the page that is lent for it. After sixteen the page is full.
+-- One more line is put, in the part of the page that is lent for it.
 use Rattle.std.proofs.Common.{arith, sym, ap, ◌≡◌, ◌+◌, ◌-◌, ◌*◌, ◌≤◌, ◌∙◌, length}
 use borrow.Rule.Slice.PartMut.{mid_len}
-use Rattle.lists.proofs.Joined.{join_none, join_more, join_done}
-use Rattle.page_text.specs.Page.{page_of_r}
+use Rattle.lists.proofs.Joined.{join_none, join_more}
 use Rattle.page_text.proofs.put_page.Goals as goal
 
 pub loop-i-init : goal.loop-i-init
-loop-i-init c = (omega arith, join_none _ _ _)
+loop-i-init c = join_none _ _ _
 
 pub loop-i-preserved : goal.loop-i-preserved
 loop-i-preserved c =
@@ -14,10 +13,4 @@ loop-i-preserved c =
     let room : 193 * c.loop-i.i + 193 ≤ length c.loop-i.page = omega arith in
     let long : length c.put_line.new.line ≡ 193 = c.put_line.auto.line ∙ mid_len _ _ _ room ∙ same in
     let size = ap length (sym c.put_line.ensures) ∙ long in
-    (omega arith, join_more _ _ c.loop-i.invariant.1 same c.put_line.ensures size (omega arith))
-
-pub returns : goal.returns
-unfolding page_of_r
-returns c =
-    let e : c.loop-i.i ≡ 16 = omega arith in
-    join_done (rw e at c.loop-i.invariant.1) (omega arith)
+    join_more _ _ c.loop-i.invariant same c.put_line.ensures size (omega arith)

@@ -1,14 +1,16 @@
 -- `respond` meets its contract: by the number of Whole's tests the buffer holds the result record, or the refusal record is put into it.
 -- Assumes nothing.
 use mathlib.Core.Path.{◌≡◌, refl, sym, ap, ◌∙◌}
-use mathlib.Core.List.{List, [], ◌∷◌, ◌++◌, append-nil}
+use mathlib.Core.List.{List, [], ◌++◌, append-nil}
 use Prim.Native.Nat.{ℕ, zero, suc}
 use native.Mathlib.Omega.{arith}
 use borrow.Author.Tests.{le-ltb}
 use lib.IntN.{ℤ, pos}
-use lib.ListN.{length, drop, set, replicate, drop_of_length-le}
+use lib.ListN.{length, drop, replicate, drop_of_length-le}
 use Rattle.lists.specs.Lists.{tabulate, filled}
 use Rattle.lists.proofs.Tabulate.{length-tabulate, filled_all}
+use Rattle.refusals.specs.Refusals.{refusal_record_of}
+use Rattle.refusals.proofs.Outcomes.{numbers_nonzero}
 use Rattle.result_record.specs.ResultRecord.{result_byte}
 use Rattle.workspace.specs.Workspace.{R, Q}
 use Rattle.workspace.specs.Loading.{loaded_words}
@@ -28,11 +30,6 @@ blank = replicate 2049 0
 same_number : (rec out : List ℕ) → length out ≡ 2049 → whole_refusal_of rec zeros blank ≡ whole_refusal_of rec zeros out
 unfolding whole_refusal_of
 same_number rec out e = rw (le-ltb (length out) 2049 (omega arith))
-
-first_two : (l : List ℕ) (x y : ℕ) → length l ≡ 2049 → set (set l 0 x) 1 y ≡ (x ∷ y ∷ []) ++ drop 2 l
-first_two [] x y e = absurd (omega arith)
-first_two (a ∷ []) x y e = absurd (omega arith)
-first_two (a ∷ b ∷ l) x y e = refl
 
 -- what an outcome by the number leaves, and what is written of it
 module _ (rec out : List ℕ) (size : length out ≡ 2049) where
@@ -57,40 +54,41 @@ module _ (rec out : List ℕ) (size : length out ≡ 2049) where
       (sym n, ap (λ (x : WholeOutcome). x.buffer) e ∙ filled_all 2049 f out (omega arith) ∙ sym (rw (d, append-nil) b))
   accepted (suc n) o e a = absurd (omega (arith, a, ap (λ (x : WholeOutcome). x.reply.number) e))
 
+  -- refused: the buffer is as it was
   refused : (number : ℕ) (o : WholeOutcome) → o ≡ whole_by number rec zeros out → (o.reply.number ≡ 0 → ⊥)
-      → (2 ≡ length (answered number)) × (set (set o.buffer 0 3) 1 o.reply.number ≡ answered number ++ drop 2 out)
+      → (2 ≡ length (answered number)) × (refusal_record_of o.reply.number ++ drop 2 o.buffer ≡ answered number ++ drop 2 out)
   unfolding whole_by whole_done
   refused zero o e a = absurd (a (ap (λ (x : WholeOutcome). x.reply.number) e))
-  refused (suc m) o e a = (refl, ap (λ (x : WholeOutcome). set (set x.buffer 0 3) 1 x.reply.number) e ∙ first_two out 3 (suc m) size)
+  refused (suc m) o e a = (refl, ap (λ (x : WholeOutcome). refusal_record_of x.reply.number ++ drop 2 x.buffer) e)
 
-pub returns-then-number-eq0-clause-size : goal.returns-then-number-eq0-clause-size
+pub returns-in-Ok-clause-size : goal.returns-in-Ok-clause-size
 unfolding whole_of
-returns-then-number-eq0-clause-size c =
+returns-in-Ok-clause-size c =
     let a = c.args in
     let size : length a.output.now ≡ 2049 = search rules in
     rw (response-is a.input.now a.output.now size)
-    (accepted a.input.now a.output.now size _ _ c.whole-reply.ensures c.if-number-eq0.true).0
+    (accepted a.input.now a.output.now size _ _ c.in-Ok.ensures refl).0
 
-pub returns-then-number-eq0-clause-bytes : goal.returns-then-number-eq0-clause-bytes
+pub returns-in-Ok-clause-bytes : goal.returns-in-Ok-clause-bytes
 unfolding whole_of
-returns-then-number-eq0-clause-bytes c =
+returns-in-Ok-clause-bytes c =
     let a = c.args in
     let size : length a.output.now ≡ 2049 = search rules in
     rw (response-is a.input.now a.output.now size)
-    (accepted a.input.now a.output.now size _ _ c.whole-reply.ensures c.if-number-eq0.true).1
+    (accepted a.input.now a.output.now size _ _ c.in-Ok.ensures refl).1
 
-pub returns-clause-size : goal.returns-clause-size
+pub returns-in-Err-clause-size : goal.returns-in-Err-clause-size
 unfolding whole_of
-returns-clause-size c =
+returns-in-Err-clause-size c =
     let a = c.args in
     let size : length a.output.now ≡ 2049 = search rules in
     rw (response-is a.input.now a.output.now size)
-    (refused a.input.now a.output.now size _ _ c.whole-reply.ensures c.if-number-eq0.false).0
+    (refused a.input.now a.output.now size _ _ c.in-Err.ensures (numbers_nonzero c.in-Err.refusal)).0
 
-pub returns-clause-bytes : goal.returns-clause-bytes
+pub returns-in-Err-clause-bytes : goal.returns-in-Err-clause-bytes
 unfolding whole_of
-returns-clause-bytes c =
+returns-in-Err-clause-bytes c =
     let a = c.args in
     let size : length a.output.now ≡ 2049 = search rules in
-    rw (response-is a.input.now a.output.now size, c.refusal_record-refusal.ensures)
-    (refused a.input.now a.output.now size _ _ c.whole-reply.ensures c.if-number-eq0.false).1
+    rw (response-is a.input.now a.output.now size, c.copy_from_slice.ensures.after, c.refusal_record-record.ensures, c.number.ensures)
+    (refused a.input.now a.output.now size _ _ c.in-Err.ensures (numbers_nonzero c.in-Err.refusal)).1

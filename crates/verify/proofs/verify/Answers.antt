@@ -1,59 +1,40 @@
--- A number other than 0 refuses, and else the words that Load and Read make of the records decide. Assumes nothing.
-use Rattle.std.proofs.Common.{◌≡◌, ◌∙◌, refl, sym, ℕ, zero, suc, Bool, ◌&&◌, List, length}
-use lib.Dec.{lit≤}
+-- A refusal answers its number alone, and else the words that Load and Read make of the records decide. Assumes nothing.
+use Rattle.std.proofs.Common.{◌≡◌, refl, ℕ, zero, suc, Bool, List, Ok, Err}
+use Rattle.std.proofs.lemmas.Result.{err_from_is_err_and}
 use lib.IntN.{ℤ}
 use Rattle.lists.specs.Lists.{all_below}
-use Rattle.refusals.specs.Refusals.{header_test}
-use Rattle.refusals.proofs.Refusals.{first-none, header_passed}
-use Rattle.matrix_record.specs.MatrixRecord.{real_entry_of, matrix_refusal}
-use Rattle.result_record.specs.ResultRecord.{record_r, record_q}
-use Rattle.result_record.proofs.Accepted.{record-accepted}
+use Rattle.refusals.specs.declared.Refusal.{Refusal}
+use Rattle.refusals.specs.Outcomes.{number_of}
+use Rattle.refusals.proofs.Outcomes.{numbers_nonzero}
 use Rattle.workspace.specs.Loading.{loaded_words}
 use Rattle.workspace.specs.Reading.{read_words}
 use Rattle.verify.specs.Sums.{is_near}
-use Rattle.verify.specs.Verify.{is_product, is_orthogonal, verify_refusal_of, verdict_by, verdict_of}
+use Rattle.verify.specs.Verify.{verify_refusal_of, verdict_by, verdict_of, verdict}
 use Rattle.verify.proofs.Families.{pairs_are}
 use Rattle.verify.proofs.verify.Goals as goal
 
-refused : (n : ℕ) (t : Bool) → (n ≡ 0 → ⊥) → record { number = n; yes = 0 } ≡ verdict_by n t
+by_number : (n : ℕ) (within : Bool) → (n ≡ 0 → ⊥) → record { number = n; yes = 0 } ≡ verdict_by n within
 unfolding verdict_by
-refused zero t f = absurd (f refl)
-refused (suc n) t f = refl
+by_number zero within f = absurd (f refl)
+by_number (suc n) within f = refl
 
--- the tests are passed
-matrix-length : (matrix result : List ℕ) → verify_refusal_of matrix result ≡ 0 → length matrix ≡ 257
-unfolding verify_refusal_of matrix_refusal
-matrix-length matrix result e = (header_passed _ _ _ (first-none (header_test 1 257 _) _ (first-none (matrix_refusal _) _ e).0).0).sized
+refused : (refusal : Refusal) (matrix result : List ℕ) → number_of refusal ≡ verify_refusal_of matrix result → verdict (Err refusal) ≡ verdict_of matrix result
+unfolding verdict_of verdict
+refused refusal matrix result e = rw (← e) (by_number (number_of refusal) _ (numbers_nonzero refusal))
 
-result-length : (matrix result : List ℕ) → verify_refusal_of matrix result ≡ 0 → length result ≡ 2049
-unfolding verify_refusal_of
-result-length matrix result e = (record-accepted _ (first-none (matrix_refusal _) _ e).1).header.sized
+pub returns-in_err-input : goal.returns-in_err-input
+returns-in_err-input c =
+    let p = err_from_is_err_and c.from_residual.result c.from_residual.ensures.1 in
+    rw (p.1, p.2) (refused _ _ _ c.in_err-input.ensures.number)
 
 -- what `all_near` found is what the records' words say
-found : (b : Bool) (matrix result : List ℕ) (words loaded w l : List ℤ) → b ≡ all_below 512 (is_near words loaded) → words ≡ read_words result w → loaded ≡ loaded_words matrix l
-    → b ≡ (is_product (real_entry_of matrix) (record_r result) (record_q result) && is_orthogonal (record_q result))
-found b matrix result words loaded w l e f g = e ∙ rw (f, g) (pairs_are matrix result w l)
+found : (matrix result : List ℕ) (b : Bool) (words loaded w l : List ℤ) → 0 ≡ verify_refusal_of matrix result → b ≡ all_below 512 (is_near words loaded)
+    → words ≡ read_words result w → loaded ≡ loaded_words matrix l → verdict (Ok b) ≡ verdict_of matrix result
+unfolding verdict_of verdict_by verdict
+found matrix result b words loaded w l z e f g = rw (← z, e, f, g, pairs_are matrix result w l)
 
-pub returns-then-number-ne0 : goal.returns-then-number-ne0
-unfolding verdict_of
-returns-then-number-ne0 c = rw (← c.verify_refusal-number.ensures) (refused _ _ c.if-number-ne0.true)
-
-pub fill_from_matrix-requires : goal.fill_from_matrix-requires
-fill_from_matrix-requires c = (matrix-length _ _ (sym c.verify_refusal-number.ensures ∙ c.if-number-ne0.false), lit≤ tt)
-
-pub fill_from_result-requires : goal.fill_from_result-requires
-fill_from_result-requires c = (result-length _ _ (sym c.verify_refusal-number.ensures ∙ c.if-number-ne0.false), lit≤ tt)
-
-pub returns-then-all_near : goal.returns-then-all_near
-unfolding verdict_of verdict_by
-returns-then-all_near c =
-    let a = c.args in
-    let e = found c.all_near.result a.matrix.now a.res.now _ _ _ _ c.all_near.ensures c.fill_from_result.ensures c.fill_from_matrix.ensures in
-    rw (sym c.verify_refusal-number.ensures ∙ c.if-number-ne0.false, ← e, c.if-all_near.true, c.if-number-ne0.false)
-
-pub returns-else-all_near : goal.returns-else-all_near
-unfolding verdict_of verdict_by
-returns-else-all_near c =
-    let a = c.args in
-    let e = found c.all_near.result a.matrix.now a.res.now _ _ _ _ c.all_near.ensures c.fill_from_result.ensures c.fill_from_matrix.ensures in
-    rw (sym c.verify_refusal-number.ensures ∙ c.if-number-ne0.false, ← e, c.if-all_near.false, c.if-number-ne0.false)
+pub returns : goal.returns
+returns c =
+    let checked = c.in_ok-input.ensures in
+    let f = c.fill.ensures in let g = c.fill-2.ensures in
+    found c.args.matrix.now c.args.res.now c.all_near.result c.fill-2.new.workspace c.fill.new.workspace _ _ checked.number c.all_near.ensures (rw checked.same.1 at c.fill-2.ensures) (rw checked.same.0 at c.fill.ensures)

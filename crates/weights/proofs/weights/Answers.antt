@@ -1,40 +1,49 @@
--- Number 0 says that the record has its length, and another that nothing is solved.
-use Rattle.std.proofs.Common.{◌≡◌, refl, sym, ◌∙◌, ℕ, zero, suc, List, ℤ, pos}
-use lib.Ieee.{Float, of_bits}
+-- A refusal answers weights of +0.0, and else the rows are worked.
+use Rattle.std.proofs.Common.{◌≡◌, refl, ◌∙◌, ℕ, zero, suc, List, Ok, Err, ℤ, pos}
+use Rattle.std.proofs.lemmas.Result.{err_from_is_err_and}
+use lib.Ieee.{Float}
 use Rattle.lists.specs.Lists.{tabulate}
 use Rattle.lists.proofs.Tabulate.{get_d_tabulate}
-use Rattle.refusals.proofs.Refusals.{first-none}
-use Rattle.result_record.specs.ResultRecord.{record_r, record_q, record_refusal_of}
-use Rattle.result_record.proofs.Accepted.{record-accepted}
+use Rattle.refusals.specs.declared.Refusal.{Refusal}
+use Rattle.refusals.specs.Outcomes.{number_of}
+use Rattle.refusals.proofs.Outcomes.{numbers_nonzero}
+use Rattle.result_record.specs.ResultRecord.{record_r, record_q}
 use Rattle.covariance.specs.declared.Sample.{Sample}
-use Rattle.weights.specs.Solution.{target_part_of, part_at, zero_float, worked_rows}
-use Rattle.weights.specs.Weights.{weights_from, weights_refusal_of, weights_by, weights_of}
+use Rattle.weights.specs.declared.Weight.{Weight}
+use Rattle.weights.specs.Solution.{target_part_of, part_at, component_of, zero_float, worked_rows}
+use Rattle.weights.specs.Weights.{weights_from, weights_refusal_of, weights_by, weights_of, weights_reply}
 use Rattle.weights.proofs.Parts.{parts_same}
 use Rattle.weights.proofs.weights.Goals as goal
 
-refused : (n : ℕ) (rec : List ℕ) (targets : List Sample) → (n ≡ 0 → ⊥) → record { number = n; weights = weights_from (λ j. zero_float) } ≡ weights_by n rec targets
+by_number : (n : ℕ) (rec : List ℕ) (targets : List Sample) → (n ≡ 0 → ⊥) → record { number = n; weights = weights_from (λ j. zero_float) } ≡ weights_by n rec targets
 unfolding weights_by
-refused zero rec targets f = absurd (f refl)
-refused (suc n) rec targets f = refl
+by_number zero rec targets f = absurd (f refl)
+by_number (suc n) rec targets f = refl
 
-pub returns-then-number-ne0 : goal.returns-then-number-ne0
-unfolding weights_of tabulate of_bits
-returns-then-number-ne0 c =
-    rw (c.all_weights-none.ensures, ← c.weights_refusal-number.ensures) (refused _ _ _ c.if-number-ne0.true)
+refused : (refusal : Refusal) (rec : List ℕ) (targets : List Sample) → number_of refusal ≡ weights_refusal_of rec → weights_reply (Err refusal) ≡ weights_of rec targets
+unfolding weights_of weights_reply
+refused refusal rec targets e = rw (← e) (by_number (number_of refusal) rec targets (numbers_nonzero refusal))
 
-pub solution-x-requires : goal.solution-x-requires
-unfolding weights_refusal_of
-solution-x-requires c =
-    (record-accepted _ (first-none (record_refusal_of c.args.bytes.now) _ (sym c.weights_refusal-number.ensures ∙ c.if-number-ne0.false)).0).header.sized
+pub returns-in_err-checked : goal.returns-in_err-checked
+returns-in_err-checked c =
+    let p = err_from_is_err_and c.from_residual.result c.from_residual.ensures.1 in
+    rw (p.1, p.2) (refused _ _ _ c.in_err-checked.ensures.number)
 
--- the rows read the parts where `target_parts` put them
+-- the rows read the parts where `System::new` put them
 worked : (rec : List ℕ) (targets : List Sample) {parts : List ℤ} {x : List Float} → parts ≡ tabulate 16 (target_part_of targets)
     → x ≡ worked_rows (record_r rec) (record_q rec) (part_at parts) 16 → x ≡ worked_rows (record_r rec) (record_q rec) (target_part_of targets) 16
 worked rec targets p e =
     rw (e, p)
     (parts_same (record_r rec) (record_q rec) (part_at (tabulate 16 (target_part_of targets))) (target_part_of targets) (λ j h. get_d_tabulate 16 (target_part_of targets) (pos 0) j h) 16)
 
+answered : (rec : List ℕ) (targets : List Sample) {x : List Float} {weights : List Weight} → 0 ≡ weights_refusal_of rec → weights ≡ weights_from (component_of x)
+    → x ≡ worked_rows (record_r rec) (record_q rec) (target_part_of targets) 16 → weights_reply (Ok weights) ≡ weights_of rec targets
+unfolding weights_of weights_by weights_reply
+answered rec targets e f g = rw (← e, f, g)
+
 pub returns : goal.returns
-unfolding weights_of weights_by
 returns c =
-    rw (c.all_weights-weights.ensures, worked _ _ c.target_parts-parts.ensures c.solution-x.ensures, c.if-number-ne0.false, sym c.weights_refusal-number.ensures ∙ c.if-number-ne0.false)
+    let checked = c.in_ok-checked.ensures in
+    let same = c.new.ensures.bytes ∙ checked.same in
+    let x = worked c.args.bytes.now c.args.targets c.new.ensures.parts (rw same at c.solution-x.ensures) in
+    answered c.args.bytes.now c.args.targets checked.number c.all_weights.ensures x

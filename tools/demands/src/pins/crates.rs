@@ -1,6 +1,7 @@
 //! The crates taken apart: what each declares, on which lines, and where its wrong programs stand.
 use super::edit::{self, Pair, Program};
 use super::place::{place, Place, Span};
+use crate::item::Sort;
 use crate::scan::antt::{self, Form};
 use crate::scan::rattle;
 use crate::scan::{end, within, Texts};
@@ -101,6 +102,7 @@ impl Crates<'_> {
                 _ => {}
             }
         }
+        crates.name_by_types();
         // the texts as the earlier pairs of an edit file have made them
         let mut made = Texts::new();
         let mut file = String::new();
@@ -139,6 +141,25 @@ impl Crates<'_> {
                 logged: logged(path, &of, &inner.name),
                 inner,
             });
+        }
+    }
+
+    /// A log names the functions of a type by the module in which the type stands, wherever they do.
+    fn name_by_types(&mut self) {
+        let key = |of_crate: &str, name: &str| (of_crate.to_string(), name.to_string());
+        let is_type = |code: &&Code| code.inner.sort == Sort::Type && code.inner.of.is_none();
+        let types = self.code.iter().filter(is_type);
+        let types: HashMap<_, _> = types
+            .map(|code| (key(&code.of_crate, &code.inner.name), code.path.clone()))
+            .collect();
+        for code in &mut self.code {
+            let of: Vec<String> = code.inner.of.iter().cloned().collect();
+            let path = of
+                .first()
+                .and_then(|of| types.get(&key(&code.of_crate, of)));
+            if let Some(path) = path {
+                code.logged = logged(path, &of, &code.inner.name);
+            }
         }
     }
 
@@ -314,6 +335,11 @@ pub mod tests {
         let texts = tree(&[
             ("crates/a/src/m.rt", SOURCE),
             ("crates/a/src/lib.rt", "fn g() {}\n"),
+            (
+                "crates/a/src/n.rt",
+                "impl From<u8> for Word {\n    fn from() {\n    }\n}\n",
+            ),
+            ("crates/a/src/o.rt", "pub struct Word {\n    w: u8,\n}\n"),
         ]);
         let crates = Crates::new(&texts).0;
         let names: Vec<&str> = crates
@@ -321,7 +347,14 @@ pub mod tests {
             .iter()
             .map(|code| code.logged.as_str())
             .collect();
-        assert_eq!(names, ["a::g", "a::m::ONE", "a::m::Word::f"]);
+        let expected = [
+            "a::g",
+            "a::m::ONE",
+            "a::o::Word::f",
+            "a::n::WordFromU8::from",
+            "a::o::Word",
+        ];
+        assert_eq!(names, expected);
     }
 
     #[test]

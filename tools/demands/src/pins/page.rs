@@ -26,7 +26,7 @@ to have. What the page asks for:
   signature or in a definition that this names, by which the law itself falls (`law:`)
 - of each table of examples that such a law names: an edit in each row
 - of each call offered to others: an edit in each `ensures`, two wrong programs besides, and no `requires`
-- of every other public function with a contract: two wrong programs
+- of every other public function with a contract, what a type has of a trait included: two wrong programs
 - of each wrong program: that it stands in one of the tables below, or that a sentence of `docs/demands.txt` is about it
 ";
 

@@ -105,13 +105,16 @@ fn constructor(spec: &Spec, tables: &[Table]) -> (String, Vec<usize>, String) {
     (spec.shown(), pins.into_iter().collect(), wanted)
 }
 
-/// The function whose contract the `returns` of an `Answers.antt` proves, as path parts.
+/// The function whose contract an `Answers.antt` proves, in one `returns` or in a `returns-clause-NAME`
+/// for each clause.
 fn proved_function(spec: &Spec) -> Option<String> {
     let folder = spec
         .path
         .strip_prefix(&format!("crates/{}/proofs/", spec.of_crate))?;
     let folder = folder.strip_suffix("/Answers.antt")?;
-    (spec.inner.name == "returns").then(|| folder.replace('/', "::"))
+    let name = &spec.inner.name;
+    let proves = name == "returns" || name.starts_with("returns-clause-");
+    proves.then(|| folder.replace('/', "::"))
 }
 
 fn contract_proof(crates: &Crates, spec: &Spec) -> (String, Vec<usize>, String) {
@@ -120,7 +123,7 @@ fn contract_proof(crates: &Crates, spec: &Spec) -> (String, Vec<usize>, String) 
     let code = crates.code.iter().find(|code| code.logged == logged);
     let pins = code.map_or_else(Vec::new, |code| crates.edits_of(code));
     let wanted = format!("`fn: {function}`");
-    (format!("{function}.returns"), pins, wanted)
+    (format!("{function}.{}", spec.inner.name), pins, wanted)
 }
 
 /// What a theorem says: the signature of a law, with the premises of the modules around it, or all of
@@ -177,7 +180,7 @@ module _ (n : ℕ) where
             ("crates/a/proofs/P.antt", PROOFS),
             (
                 "crates/a/proofs/m/f/Answers.antt",
-                "pub returns : goal.returns\nreturns c = x\n",
+                "pub returns : goal.a\nreturns c = x\n\npub returns-clause-rows : goal.b\nreturns-clause-rows c = x\n",
             ),
             ("crates/a/src/m.rt", "fn f() {\n    7\n}\n"),
             ("crates/a/must-fail/e.edit", edits),
@@ -239,8 +242,11 @@ module _ (n : ℕ) where
 
     #[test]
     fn the_proof_of_a_contract_is_pinned_by_its_function() {
-        let cited = [("proofs/m/f/Answers.antt", "a.proofs.m.f.Answers.returns")];
-        let found = pins(&cited, &edit("fn: m::f", "src/m.rt", "    7"));
-        assert_eq!(found, [said("m::f.returns", 1)]);
+        for name in ["returns", "returns-clause-rows"] {
+            let full = format!("a.proofs.m.f.Answers.{name}");
+            let cited = [("proofs/m/f/Answers.antt", full.as_str())];
+            let found = pins(&cited, &edit("fn: m::f", "src/m.rt", "    7"));
+            assert_eq!(found, [said(&format!("m::f.{name}"), 1)]);
+        }
     }
 }

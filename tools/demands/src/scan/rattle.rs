@@ -3,10 +3,14 @@ use super::Named;
 use crate::item::Sort;
 use std::ops::Range;
 
+mod block;
+
+use block::Block;
+
 /// A declaration, by the lines of its file, which count from 0.
 #[derive(Clone, Debug)]
 pub struct Declaration {
-    /// the type that it is associated with
+    /// the type or trait that it is associated with, as a log has it
     pub of: Option<String>,
     pub name: String,
     pub sort: Sort,
@@ -35,36 +39,45 @@ pub fn named(text: &str) -> Vec<Named> {
 
 pub fn declarations(text: &str) -> Vec<Declaration> {
     let lines: Vec<&str> = text.lines().collect();
-    let mut found = Vec::new();
-    // the type that an open `impl` is for
-    let mut of = None;
+    let mut found: Vec<Declaration> = Vec::new();
+    // the `impl` or `trait` that is open
+    let mut block = None;
     for (at, line) in lines.iter().enumerate() {
-        let inner = line.starts_with("    ");
-        if inner && of.is_none() || line.is_empty() {
-            continue;
+        let member = match indent(line) {
+            0 if !line.is_empty() => false,
+            4 if block.is_some() => true,
+            _ => continue,
+        };
+        if !member {
+            let hidden = |name: &str| {
+                let is = |found: &Declaration| found.sort == Sort::Type && found.name == name;
+                found.iter().any(|found| is(found) && !found.public)
+            };
+            block = Block::new(&lines[at..end(&lines, at)], hidden);
         }
-        if !inner {
-            of = None;
-        }
-        match declared(line) {
-            Some(("impl", name)) => of = Some(name),
-            Some((word, name)) => found.extend(declaration(&of, word, name, &lines, at)),
-            None => {}
+        let around = block.as_ref().filter(|_| member);
+        if let Some((word, name)) = declared(line) {
+            found.extend(declaration(around, word, name, &lines, at));
         }
     }
     found
 }
 
-/// The first word of a line after the marks of its item, and the name after it.
+/// The first word of a line after the marks of its item, and the name after it. A ghost member has
+/// no word of its own.
 fn declared(line: &str) -> Option<(&str, String)> {
     let marks = ["ghost", "extern", "\"C\""];
     let words = line.split_whitespace();
     let mut words = words.skip_while(|word| word.starts_with("pub") || marks.contains(word));
-    Some((words.next()?, identifier(words.next()?)))
+    let (word, next) = (words.next()?, words.next()?);
+    if line.trim_start().starts_with("ghost ") && (word.ends_with(':') || next == "=") {
+        return Some(("ghost", identifier(word)));
+    }
+    Some((word, identifier(next)))
 }
 
 fn declaration(
-    of: &Option<String>,
+    around: Option<&Block>,
     word: &str,
     name: String,
     lines: &[&str],
@@ -76,19 +89,21 @@ fn declaration(
     } else {
         Vec::new()
     };
+    let promised = around.is_some_and(|block| block.promised);
     let sort = match word {
-        "fn" if clauses.iter().any(|clause| clause.ensures) => Sort::Contract,
+        "fn" if promised || clauses.iter().any(|clause| clause.ensures) => Sort::Contract,
         "fn" => Sort::Function,
-        "struct" | "enum" | "type" => Sort::Type,
-        "const" => Sort::Constant,
+        "struct" | "enum" | "type" | "trait" => Sort::Type,
+        "const" | "static" | "ghost" => Sort::Constant,
         "mod" => Sort::Module,
         _ => return None,
     };
+    let marked = lines[at].trim_start().starts_with("pub ");
     Some(Declaration {
-        of: of.clone(),
+        of: around.map(|block| block.name.clone()),
         name,
         sort,
-        public: lines[at].trim_start().starts_with("pub "),
+        public: marked || word == "fn" && around.is_some_and(|block| block.public),
         lines: range,
         clauses,
     })
@@ -105,10 +120,16 @@ fn indent(line: &str) -> usize {
     line.len() - line.trim_start().len()
 }
 
-/// The line after the last one of an item: that one is set in as the first and closes it.
+/// The line after the last one of an item: that one is set in as the first and closes it. Of a
+/// function without a body it is the last of its clauses.
 fn end(lines: &[&str], at: usize) -> usize {
-    let closes =
-        |line: &&str| indent(line) == indent(lines[at]) && line.trim_end().ends_with(['}', ';']);
+    let mut body = false;
+    let closes = |line: &&str| {
+        let same = indent(line) == indent(lines[at]);
+        let line = line.trim_end();
+        body |= same && line.ends_with('{');
+        same && line.ends_with(['}', ';']) || !body && line.ends_with("};")
+    };
     let last = lines[at..].iter().position(closes);
     last.map_or(lines.len(), |far| at + far + 1)
 }
@@ -190,6 +211,74 @@ pub extern "C" fn face(
             "Word.scale Contract",
             "plain Function",
             "face Contract",
+        ];
+        assert_eq!(found, expected);
+    }
+
+    const BLOCKS: &str = r#"
+pub trait Lane: Copy {
+    ghost number: { Self → ℤ };
+
+    fn oriented(
+        sign: i32,
+    ) -> Self
+        requires { x }
+        ensures { y };
+
+    fn stored(self) -> u8;
+}
+
+static TABLE: [u8; 2] = [
+    1,
+    2,
+];
+
+pub struct Word(pub i64);
+
+struct Hidden;
+
+impl Lane for Word {
+    ghost number = { λ w. w.0 };
+
+    fn oriented(sign: i32) -> Word {
+        const INNER: u8 = 1;
+        Word(1)
+    }
+}
+
+impl fmt::Display for Hidden {
+    fn fmt(&self) {
+    }
+}
+
+impl<W: Lane, const N: usize> Rows<W> {
+    pub fn turn<const M: usize>(self) -> [W; M]
+        ensures { z }
+    {
+    }
+}
+"#;
+
+    #[test]
+    fn traits_and_what_is_implemented_of_them() {
+        let said = |found: &Declaration| {
+            let of = found.of.as_deref().unwrap_or("-");
+            let (sort, lines) = (found.sort, &found.lines);
+            format!("{of} {} {sort:?} {} {lines:?}", found.name, found.public)
+        };
+        let found: Vec<String> = declarations(BLOCKS).iter().map(said).collect();
+        let expected = [
+            "- Lane Type true 1..12",
+            "Lane number Constant false 2..3",
+            "Lane oriented Contract false 4..9",
+            "Lane stored Function false 10..11",
+            "- TABLE Constant false 13..17",
+            "- Word Type true 18..19",
+            "- Hidden Type false 20..21",
+            "WordLane number Constant false 23..24",
+            "WordLane oriented Contract true 25..29",
+            "HiddenDisplay fmt Function false 32..34",
+            "Rows turn Contract true 37..41",
         ];
         assert_eq!(found, expected);
     }

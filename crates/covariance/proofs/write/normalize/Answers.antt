@@ -1,41 +1,36 @@
 -- The quotient is at most 32,768 either way, so the clamp from above leaves 16 bits.
-use Rattle.std.proofs.Common.{◌≡◌, sym, subst, ◌∙◌, ℕ, ◌*◌, ◌^◌, ◌≤◌, ◌<◌, arith, false, ℤ, pos, nat_abs, ◌*ℤ◌, w64, to_z, of_z}
+use Rattle.std.proofs.Common.{◌≡◌, refl, Bool, true, false, cond, ℕ, ◌*◌, ◌^◌, ◌≤◌, ◌<◌, arith, ℤ, pos, nat_abs, ◌*ℤ◌, w64}
+use lib.Signed.{quot_z, lt_z}
 use lib.Dec.{lit<}
-use lib.Signed.{lt_z, quot_z}
-use mir.Syntax.{w16}
 use mir.Val.{SFits}
-use mir.Facts.{to_z-of_z, to_z_pos}
-use Rattle.integers.proofs.Within.{within, within_fits}
+use mir.Facts.{to_z-of_z, sfits_widen}
+use Rattle.std.specs.Int.{int_min}
+use Rattle.integers.proofs.Within.{within, within_pos}
 use Rattle.covariance.specs.WriteMatrix.{normalized}
 use Rattle.covariance.proofs.Machine.{read, back}
-use Rattle.covariance.proofs.Normalized.{quotient_near, normalized_fits, normalized-kept}
+use Rattle.covariance.proofs.Normalized.{quotient_near, normalized_fits, normalized-high, normalized-kept}
 use Rattle.covariance.proofs.write.normalize.Goals as goal
 
-module _ (count : ℕ) (sum : ℤ) (pre : (0 < count) × ((count ≤ 4096) × (nat_abs sum ≤ 2 ^ 31 * count))) where
-  divisor_is : pos 65536 *ℤ to_z w64 count ≡ pos (65536 * count)
-  divisor_is = let l : count < 9223372036854775808 = omega arith in rw (to_z_pos w64 l)
+module _ (count : ℕ) (sum : ℤ) (small : count < 2 ^ 32) (near : nat_abs sum ≤ 2 ^ 31 * count) where
+  abbrev divisor : ℤ
+  divisor = pos 65536 *ℤ read (pos count)
 
-  divisor_fits : SFits w64 (pos 65536 *ℤ to_z w64 count)
-  divisor_fits = rw divisor_is (record { sfits = omega arith })
+  divisor_is : read divisor ≡ pos (65536 * count)
+  divisor_is = rw (back (within_pos count) (omega arith)) (back (within_pos (65536 * count)) (omega arith))
 
-  -- the quotient as the machine has it
-  abbrev machine : ℤ
-  machine = quot_z (read sum) (read (pos 65536 *ℤ to_z w64 count))
+  quotient_is : read (quot_z (read sum) (read divisor)) ≡ quot_z sum (pos (65536 * count))
+  quotient_is = rw (divisor_is, back (within {x = sum} near) (omega arith)) (back (quotient_near count sum near) (lit< tt))
 
-  machine_is : machine ≡ quot_z sum (pos (65536 * count))
-  machine_is = rw (to_z-of_z divisor_fits, divisor_is, back (within {x = sum} pre.1.1) (omega arith))
+  clamped : (t : Bool) → lt_z (pos 32767) (quot_z sum (pos (65536 * count))) ≡ t → cond t (pos 32767) (quot_z sum (pos (65536 * count))) ≡ normalized count sum
+  clamped true e = normalized-high count sum e
+  clamped false e = normalized-kept count sum e
 
-  machine_fits : SFits w64 machine
-  machine_fits = subst (SFits w64) (sym machine_is) (within_fits w64 (quot_z sum (pos (65536 * count))) (quotient_near count sum pre.1.1) (lit< tt))
-
-  read_is : read machine ≡ quot_z sum (pos (65536 * count))
-  read_is = to_z-of_z machine_fits ∙ machine_is
-
-  -- the quotient that is kept is the part
-  kept : lt_z (pos 32767) (read machine) ≡ false → to_z w16 (of_z w16 (read machine)) ≡ normalized count sum
-  kept h =
-      let e : read machine ≡ normalized count sum = read_is ∙ normalized-kept count sum (rw read_is at h) in
-      rw e (to_z-of_z (normalized_fits count sum pre.1.1))
+  clamped_is : int_min (read (quot_z (read sum) (read divisor))) (pos 32767) ≡ normalized count sum
+  clamped_is = rw quotient_is (clamped _ refl)
 
 pub returns : goal.returns
-returns c = kept c.args.count c.args.sum c.requires c.if-quotient-gt32767.false
+returns c =
+    let fits = normalized_fits c.args.count c.args.sum c.requires.1 in
+    let wide : SFits w64 (normalized c.args.count c.args.sum) = sfits_widen tt fits in
+    let from = c.from.ensures in
+    rw (c.min.ensures.value, from, clamped_is c.args.count c.args.sum (omega arith) c.requires.1, to_z-of_z wide, to_z-of_z fits)

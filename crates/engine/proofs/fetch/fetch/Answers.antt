@@ -1,24 +1,19 @@
--- `fetch` meets its contract: number 0 says that the sizes are right, and another that nothing is changed. Assumes nothing.
-use mathlib.Core.Path.{◌≡◌, refl, sym, ◌∙◌}
-use mathlib.Core.List.{List}
-use Prim.Native.Nat.{ℕ, zero, suc}
-use lib.IntN.{ℤ}
+-- A refusal changes nothing; number 0 says that the sizes are right.
+use Rattle.std.proofs.Common.{◌≡◌, Err, sym, rules}
 use Rattle.engine.specs.Fetch.{fetch_by, fetch_of}
 use Rattle.engine.proofs.Accepted.{fetch_accepted}
+use Rattle.engine.proofs.Refused.{refused_by}
 use Rattle.engine.proofs.fetch.fetch.Goals as goal
 
-refused : (n : ℕ) (l : List ℤ) (buffer : List ℕ) → (n ≡ 0 → ⊥) → record { number = n; buffer = buffer } ≡ fetch_by n l buffer
-unfolding fetch_by
-refused zero l buffer f = absurd (f refl)
-refused (suc n) l buffer f = refl
-
-pub returns-then-number-ne0 : goal.returns-then-number-ne0
-unfolding fetch_of
-returns-then-number-ne0 c = rw (← c.fetch_refusal-number.ensures) (refused _ _ _ c.if-number-ne0.true)
+pub returns-in_err-check_fetch : goal.returns-in_err-check_fetch
+unfolding fetch_of fetch_by
+returns-in_err-check_fetch c =
+    let e : c.from_residual.result ≡ Err c.in_err-check_fetch.field-0.0 = search rules in
+    rw (e, ← c.in_err-check_fetch.ensures, ← refused_by c.in_err-check_fetch.field-0.0)
 
 pub write-requires : goal.write-requires
-write-requires c = let s = fetch_accepted _ _ _ (sym c.fetch_refusal-number.ensures ∙ c.if-number-ne0.false) in (s.room, s.space)
+write-requires c = let s = fetch_accepted _ _ _ (sym c.in_ok-check_fetch.ensures) in (s.room, s.space)
 
 pub returns : goal.returns
 unfolding fetch_of fetch_by
-returns c = rw ((sym c.fetch_refusal-number.ensures ∙ c.if-number-ne0.false), c.write.ensures)
+returns c = rw (← c.in_ok-check_fetch.ensures, c.write.ensures)

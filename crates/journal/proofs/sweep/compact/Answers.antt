@@ -1,50 +1,30 @@
--- Each entry passed is dropped or moved down.
-use Rattle.std.proofs.Common.{arith, sym, ◌∙◌}
-use Rattle.journal.proofs.Sweeping.{sweep-none, sweep-length, sweep-bound, sweep-drop, sweep-keep, sweep_done}
+-- Each entry passed is dropped, moved down, or left where it stands already.
+use Rattle.std.proofs.Common.{arith, sym}
+use Rattle.journal.proofs.Sweeping.{sweep_none, sweep_drop, sweep_keep, sweep_in_place, sweep_done}
 use Rattle.journal.proofs.sweep.compact.Goals as goal
-use Rattle.journal.proofs.sweep.compact.Goals.{then-stays, else-stays}
+use Rattle.journal.proofs.sweep.compact.Goals.{then-stays, else-stays, then-to-at, else-to-at}
 
-pub loop-at-init : goal.loop-at-init
-loop-at-init c = sweep-none _ _ _ (λ k. omega (arith, c.type_inv.buffer k)) c.requires
+pub loop-head-init : goal.loop-head-init
+loop-head-init c = sweep_none _ _ (λ k. omega (arith, c.type_inv.log k)) c.requires
 
-pub stays-requires : goal.stays-requires
-stays-requires c =
-    let i = c.loop-at.invariant in
-    let b = sweep-bound i c.loop-at-test.true _ c.entry_size-size.ensures in
-    (omega (arith, b.0, b.1), rw (sweep-length i) i.room)
-
-pub move_down-requires : goal.move_down-requires
-move_down-requires c =
-    let i = c.loop-at.invariant in
-    let b = sweep-bound i c.loop-at-test.true _ c.entry_size-size.ensures in
-    (i.behind, rw (sweep-length i) (omega (arith, b.1, i.room)))
-
-pub overflow_add-to : goal.overflow_add-to
-overflow_add-to c =
-    let i = c.loop-at.invariant in
-    let b = sweep-bound i c.loop-at-test.true _ c.entry_size-size.ensures in
-    omega (arith, b.1, i.behind)
-
-pub overflow_add-at : goal.overflow_add-at
-overflow_add-at c = omega (arith, sweep-bound c.loop-at.invariant c.loop-at-test.true _ c.entry_size-size.ensures)
-
-pub loop-at-smaller : goal.loop-at-smaller
-loop-at-smaller c = omega (arith, sweep-bound c.loop-at.invariant c.loop-at-test.true _ c.entry_size-size.ensures)
-
-pub loop-at-preserved : goal.loop-at-preserved
-loop-at-preserved c =
-    let i = c.loop-at.invariant in
+pub loop-head-preserved : goal.loop-head-preserved
+loop-head-preserved c =
+    let i = c.loop-head.invariant in
     elim c.if-stays.branch [
       | then-stays w ↦
-          rw (w.buffer-is ∙ w.move_down.ensures, w.to-is)
-          (sweep-keep i c.loop-at-test.true _ c.entry_size-size.ensures (sym w.if-stays.ensures))
-      | else-stays w ↦
-          rw (w.buffer-is, w.to-is)
-          (sweep-drop i c.loop-at-test.true _ c.entry_size-size.ensures (sym w.if-stays.ensures))
+          elim w.if-to-at.branch [
+            | then-to-at v ↦
+                rw (w.to-is, w.log-is, v.log-is)
+                (sweep_keep i _ c.in-Some.ensures _ c.entry_size-size.ensures (sym w.if-stays.ensures) _ v.copy_within.ensures.after)
+            | else-to-at v ↦
+                rw (w.to-is, w.log-is, v.log-is)
+                (sweep_in_place i _ c.in-Some.ensures _ c.entry_size-size.ensures (sym w.if-stays.ensures) v.if-to-at.false)
+          ]
+      | else-stays w ↦ rw (w.to-is, w.log-is) (sweep_drop i _ c.in-Some.ensures _ c.entry_size-size.ensures (sym w.if-stays.ensures))
     ]
 
 pub returns-clause-count : goal.returns-clause-count
-returns-clause-count c = (sweep_done c.loop-at.invariant c.loop-at-test.false).0
+returns-clause-count c = (sweep_done c.loop-head.invariant c.in_default.ensures).0
 
 pub returns-clause-bytes : goal.returns-clause-bytes
-returns-clause-bytes c = (sweep_done c.loop-at.invariant c.loop-at-test.false).1
+returns-clause-bytes c = (sweep_done c.loop-head.invariant c.in_default.ensures).1

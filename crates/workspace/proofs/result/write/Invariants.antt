@@ -1,5 +1,5 @@
 -- The tag and the first m words are written. Assumes nothing.
-use Rattle.std.proofs.Common.{◌+◌, ◌*◌, ◌-◌, ◌≤◌, length}
+use Rattle.std.proofs.Common.{◌+◌, ◌*◌, ◌≤◌, length}
 use Rattle.lists.proofs.Filling.{Filling}
 use Rattle.result_record.specs.ResultRecord.{result_byte}
 use Rattle.workspace.specs.Workspace.{R, Q}
@@ -11,6 +11,3 @@ invariant-loop-m l =
       room : 2049 ≤ length l.initial.buffer;
       done : Filling 2049 (result_byte (R l.workspace) (Q l.workspace)) l.initial.buffer (1 + 4 * l.m) l.buffer;
     }
-
-abbrev pub decreases-loop-m : goal.decreases-loop-m
-decreases-loop-m l = 512 - l.m

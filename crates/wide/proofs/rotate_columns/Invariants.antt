@@ -1,8 +1,0 @@
--- The columns have made i micro-rotations. Assumes nothing.
-use Rattle.std.proofs.Common.{ℕ}
-use Rattle.cordic.specs.MicroRotation.{micro_rotations, sign}
-use Rattle.rotation.specs.Stores.{pair_at, Columns}
-use Rattle.wide.proofs.rotate_columns.Given as goal
-
-abbrev pub invariant-loop-i : goal.invariant-loop-i
-invariant-loop-i l = Columns (λ (j : ℕ). micro_rotations (sign (pair_at l.fn.us l.fn.vs l.lead)) l.i (pair_at l.fn.us l.fn.vs j)) l.lead 32 l.us l.vs

@@ -1,0 +1,2 @@
+-- What 64-bit words promise of columns.
+pub mod Words
