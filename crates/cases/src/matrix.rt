@@ -66,6 +66,7 @@ impl Matrix {
 fn full(i: usize) -> u8
     requires { i < 257 }
 {
+    // Casts and no conversions by trait: a u64 has no From<usize>, and a TryFrom cannot fail here.
     ((i as u64 * 1103515245 + 12345) / 65536 % 256) as u8
 }
 

@@ -4,10 +4,10 @@ use mathlib.Core.List.{List}
 use Prim.Native.Nat.{ℕ, ◌+◌, ◌*◌, ◌/◌, ◌%◌, ◌<◌}
 use native.Mathlib.Omega.{arith}
 use lib.IntN.{ℤ, ◌+ℤ◌}
-use lib.ListN.{get_or}
 use Rattle.words.specs.Words.{int16_byte, int16_bytes_of}
 use Rattle.matrix_record.specs.MatrixRecord.{matrix_byte}
 use Rattle.matrix_record.proofs.Written.{byte_at}
+use Rattle.matrix_record.proofs.Writing.{Values}
 use Rattle.covariance.specs.declared.Sample.{Sample}
 use Rattle.covariance.specs.Sums.{product_part, sample_of, sum_at, added_word}
 use Rattle.covariance.specs.WriteMatrix.{normalized, element_part}
@@ -30,10 +30,9 @@ part_byte count words n b h =
     byte_at (element_part count words) (1 + 2 * n + b) (n / 2) (n % 2) b (omega arith) h (omega arith)
     ∙ ap (λ (k : ℕ). int16_byte (normalized count (sum_at words k)) b) m
 
--- its two bytes, as a list
-pub part_bytes : (count : ℕ) (words : List ℤ) (n : ℕ) (bytes : List ℕ) → bytes ≡ int16_bytes_of (normalized count (sum_at words n))
-    → (get_or bytes 0 0 ≡ matrix_byte (element_part count words) (1 + 2 * n)) × (get_or bytes 1 0 ≡ matrix_byte (element_part count words) (1 + 2 * n + 1))
-part_bytes count words n bytes e =
-    let first = part_byte count words n 0 (omega arith) in
+-- its two bytes are the record's bytes from 1 + 2 * n on
+pub part_values : (count : ℕ) (words : List ℤ) (n : ℕ) → Values (matrix_byte (element_part count words)) (1 + 2 * n) (int16_bytes_of (normalized count (sum_at words n)))
+unfolding Values
+part_values count words n =
     let z : 1 + 2 * n + 0 ≡ 1 + 2 * n = omega arith in
-    rw e (sym (rw z at first), sym (part_byte count words n 1 (omega arith)))
+    (sym (rw z at (part_byte count words n 0 (omega arith))), (sym (part_byte count words n 1 (omega arith)), tt))

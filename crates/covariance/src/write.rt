@@ -28,10 +28,9 @@ impl Sums {
     {
         buffer[0] = matrix_record::TAG;
         for n in 0..128 {
-            let b = int16_bytes(normalize(self.count, self.words[n]));
             let p = 1 + 2 * n;
-            buffer[p] = b[0];
-            buffer[p + 1] = b[1];
+            let part = normalize(self.count, self.words[n]);
+            buffer[p..p + 2].copy_from_slice(&int16_bytes(part));
         }
     }
 

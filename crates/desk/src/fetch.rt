@@ -12,7 +12,7 @@ use crate::waiting::take_in;
 use refusals::Refusal;
 
 impl Desk {
-    // The matrix that waits is loaded.
+    // The matrix that waits is loaded. No array of 512 words, since a longer area may be lent: `desk_fetch_of` speaks of its words behind them too.
     fn bring_in(&mut self, sector: Sector, area: &mut [i32])
         requires { workspace_words ≤ length area.old }
         ensures { record { desk = self.new; area = area.new } ≡ loaded self.old sector (waiting_at self.old sector) area.old }

@@ -54,7 +54,7 @@ impl Desk {
     fn must_wait(&self, sector: Sector) -> bool
         ensures { result ≡ must_wait_of self.now sector }
     {
-        self.waits(sector) || (self.job(sector).turn as usize) < schedule::COUNT
+        self.waits(sector) || self.job(sector).is_unfinished()
     }
 
     // Hands in a matrix record for a sector, or refuses and changes nothing.

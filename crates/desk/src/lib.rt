@@ -44,6 +44,8 @@ pub struct Desk {
     pub shares: [u16; 8],
     pub left: [u16; 8],
     pub waits: [u8; 8],
+    // One array of bytes and not [[u8; 257]; 8], though C would see the same: the definitions `new_desk`, `record_in` and `kept`, which the laws of the desk cite,
+    // speak of one list.
     pub records: [u8; 2056],
 }
 
@@ -72,10 +74,8 @@ impl Desk {
     pub fn new() -> Desk
         ensures { result ≡ new_desk }
     {
-        let turn = schedule::COUNT as u32;
-        let job = Job { turn, made: 0 };
         Desk {
-            jobs: [job; 8],
+            jobs: [Job::FINISHED; 8],
             heard: [0; 8],
             shares: [FIRST_SHARE; 8],
             left: [FIRST_SHARE; 8],

@@ -31,7 +31,7 @@ impl TryFrom<u32> for Role {
 }
 
 impl Role {
-    // Test 15: the role of this number, where it may what `least` may.
+    // The test ahead of all others: the role of this number, where it may what `least` may.
     pub fn admit(number: u32, least: Role) -> Result<Role, Refusal>
         ensures number { outcome_number result ≡ role_test (may_of least number) }
         ensures same { IfOk result (λ role. Ok role ≡ role_of number) }

@@ -11,8 +11,8 @@ use engine::job::Job;
 use engine::run::Ran;
 use refusals::Refusal;
 
-// What C is answered: the desk after the call, the refusal's number, the sector's job, and of this call the turns, skipped ones included, the clamps in R and the clamps
-// in Q.
+// What C is answered: the desk after the call, the refusal's number, the sector's job, and of this call the turns, skipped ones included, the clamps in R and
+// the clamps in Q.
 #[repr(C)]
 #[derive(Clone, Copy)]
 pub struct DeskRunReply {
@@ -49,13 +49,12 @@ impl DeskRunReply {
     }
 }
 
-// Test 13: turns are asked for, for an unfinished job, and the sector has none left in the round.
+// The test that refuses where turns are asked for, for an unfinished job, and the sector has none left in the round.
 #[tactic(auto, unfolding(crate::specs::Run::count_test))]
 fn check_count(job: Job, left: u16, request: u16) -> Result<(), Refusal>
     ensures { outcome_number result ≡ count_test job left request }
 {
-    let unfinished = (job.turn as usize) < schedule::COUNT;
-    if request > 0 && unfinished && left == 0 {
+    if request > 0 && job.is_unfinished() && left == 0 {
         return Err(Refusal::CountUsedUp);
     }
     Ok(())
@@ -96,6 +95,7 @@ impl Desk {
         let sector = self.check_run(role, sector, request, area)?;
         let left = self.left(sector);
         let ran = engine::run::run(self.job(sector), request.min(left), area)?;
+        // A cast and no TryFrom, whose error cannot come: that it loses no bits is proved, since no more turns are taken than `left`.
         self.pay(sector, ran.job, left - ran.count as u16);
         Ok(ran)
     }

@@ -11,7 +11,7 @@ use std::marker::Model;
 // How many there are.
 const SECTORS: usize = 8;
 
-// Contracts see its number, which test 12 has passed.
+// Contracts see its number, which is under 8.
 #[derive(Clone, Copy)]
 pub struct Sector {
     index: usize,
@@ -29,13 +29,14 @@ impl Model for Sector {
     ghost inverse = { λ n. record { index = n } };
 }
 
-// Test 12.
+// The sector of this number, if there is one.
 impl TryFrom<u32> for Sector {
     type Error = Refusal;
 
     ghost try_from_gives = { λ number result. (outcome_number result ≡ sector_test number) × IfOk result (λ sector. sector ≡ number) };
 
     fn try_from(number: u32) -> Result<Sector, Refusal> {
+        // A cast and no TryFrom, whose error cannot come: a usize has all numbers of 32 bits.
         let index = number as usize;
         if index >= SECTORS {
             return Err(Refusal::NoSuchSector);

@@ -22,7 +22,7 @@ fn total(shares: &[u16; 8]) -> u32
 }
 
 impl Shares {
-    // Test 14.
+    // The test that the shares make no more turns in all than a round has.
     fn check(&self) -> Result<(), Refusal>
         ensures { outcome_number result ≡ shares_test self.now.shares }
     {

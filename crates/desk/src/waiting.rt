@@ -35,7 +35,8 @@ impl Desk {
     }
 }
 
-// Fills the area from a record, and answers its heard byte.
+// Fills the area from a record, and answers its heard byte. No array of 512 words, since a longer area may be lent: `hand_in_of` and `desk_fetch_of` speak of
+// its words behind them too.
 pub fn take_in(bytes: &[u8; BYTES], area: &mut [i32]) -> u8
     requires { workspace_words ≤ length area.old }
     ensures filled { area.new ≡ loaded_words bytes.now area.old }

@@ -7,14 +7,14 @@ use crate::job::Job;
 use crate::lent::{check_buffer, check_workspace};
 use refusals::Refusal;
 
-// Tests 3, 5, 6, 7 and 8, in this order.
+// The tests, in this order: the workspace has room, the job can be, it is finished, the buffer has room, and the workspace holds a finished R.
 #[tactic(auto, unfolding(crate::specs::Fetch::fetch_refusal_of), using(refusals::proofs::Outcomes::refused_first, refusals::proofs::Outcomes::passed_first))]
 pub fn check_fetch(job: Job, workspace: &[i32], buffer: &[u8]) -> Result<(), Refusal>
     ensures { outcome_number result ≡ fetch_refusal_of job workspace.now buffer.now }
 {
     check_workspace(workspace)?;
     job.check()?;
-    if (job.turn as usize) < schedule::COUNT {
+    if job.is_unfinished() {
         return Err(Refusal::Unfinished);
     }
     check_buffer(buffer)?;

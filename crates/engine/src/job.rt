@@ -1,6 +1,7 @@
 // The job: what a host keeps of a matrix beside its workspace, and hands to the next call.
-ghost use Rattle.std.specs.Prelude.{◌≡◌};
+ghost use Rattle.std.specs.Prelude.{◌≡◌, ltb};
 ghost use Rattle.refusals.specs.Outcomes.{outcome_number};
+ghost use Rattle.schedule.specs.Schedule.{rotation_count};
 ghost use Rattle.engine.specs.Job.{job_test};
 
 use refusals::Refusal;
@@ -13,20 +14,21 @@ pub struct Job {
     pub made: u32,
 }
 
+// Between u32 and usize are casts and no TryFrom, whose error cannot come: 120 has room in 32 bits, and a usize has all numbers of 32 bits.
 impl Job {
     // The job of a workspace that Load filled.
     pub const LOADED: Job = Job { turn: 0, made: 0 };
 
-    // The job of a workspace that Read filled: no turn remains.
-    pub const READ: Job = Job {
+    // A job with no turn left and none made, as of a workspace that Read filled.
+    pub const FINISHED: Job = Job {
         turn: schedule::COUNT as u32,
         made: 0,
     };
 
-    // What the reply of a refused Load or Read carries in its place.
+    // No job, for the reply of a refusal that hands none back. The same values as LOADED, under a name of its own, since nothing is loaded.
     pub const NONE: Job = Job { turn: 0, made: 0 };
 
-    // Test 5: a job has a turn number of 120 at most, and no more turns made than that.
+    // The test that a job can be: its turn number is 120 at most, and no more turns are made than that.
     #[tactic(auto, unfolding(crate::specs::Job::job_test))]
     pub fn check(self) -> Result<(), Refusal>
         ensures { outcome_number result ≡ job_test self }
@@ -35,5 +37,12 @@ impl Job {
             return Err(Refusal::NoSuchJob);
         }
         Ok(())
+    }
+
+    // Whether turns are left.
+    pub fn is_unfinished(self) -> bool
+        ensures { result ≡ ltb self.turn rotation_count }
+    {
+        (self.turn as usize) < schedule::COUNT
     }
 }

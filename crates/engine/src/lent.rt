@@ -7,7 +7,7 @@ ghost use Rattle.workspace.specs.Workspace.{workspace_test};
 
 use refusals::Refusal;
 
-// Test 3: a workspace has at least the words that are worked on.
+// The test that a workspace has at least the words that are worked on.
 pub fn check_workspace(workspace: &[i32]) -> Result<(), Refusal>
     ensures { outcome_number result ≡ workspace_test workspace.now }
 {
@@ -17,7 +17,7 @@ pub fn check_workspace(workspace: &[i32]) -> Result<(), Refusal>
     Ok(())
 }
 
-// Test 7: a buffer has room for the record.
+// The test that a buffer has room for the record.
 pub fn check_buffer(buffer: &[u8]) -> Result<(), Refusal>
     ensures { outcome_number result ≡ buffer_test result_bytes buffer.now }
 {

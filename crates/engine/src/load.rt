@@ -14,7 +14,7 @@ pub struct Loaded {
     pub job: Job,
 }
 
-// Stays a number beside values, since C reads it: the refusal's number, the heard byte and the job.
+// What C is answered: the refusal's number, the heard byte and the job.
 #[repr(C)]
 #[derive(Clone, Copy)]
 pub struct LoadReply {
@@ -42,7 +42,7 @@ impl From<Result<Loaded, Refusal>> for LoadReply {
     }
 }
 
-// Tests 1, 2, 3 and 4: the record that the bytes are.
+// The record that the bytes are, tested in this order: its tag, its length, the workspace's room, and that an antenna is heard.
 #[tactic(auto, unfolding(crate::specs::Load::load_refusal_of), using(refusals::proofs::Outcomes::refused_first, refusals::proofs::Outcomes::passed_first))]
 pub fn check_load<'a>(
     bytes: &'a [u8],

@@ -7,7 +7,7 @@ use crate::job::Job;
 use crate::lent::check_workspace;
 use refusals::Refusal;
 
-// Stays a number beside values, since C reads it: the refusal's number and the job.
+// What C is answered: the refusal's number and the job.
 #[repr(C)]
 #[derive(Clone, Copy)]
 pub struct ReadReply {
@@ -29,7 +29,7 @@ impl From<Result<Job, Refusal>> for ReadReply {
     }
 }
 
-// Tests 1, 2, 3 and 8: the record that the bytes are.
+// The record that the bytes are, tested in this order: its tag, its length, the workspace's room, and that its R is finished.
 #[tactic(auto, unfolding(crate::specs::Read::read_refusal_of), using(refusals::proofs::Outcomes::refused_first, refusals::proofs::Outcomes::passed_first))]
 pub fn check_read<'a>(
     bytes: &'a [u8],
@@ -52,5 +52,5 @@ pub fn read(bytes: &[u8], workspace: &mut [i32]) -> Result<Job, Refusal>
 {
     let checked = check_read(bytes, workspace)?;
     workspace::filling::fill(checked, workspace);
-    Ok(Job::READ)
+    Ok(Job::FINISHED)
 }

@@ -1,4 +1,5 @@
-// Run: some of the turns that remain.
+// Run: some of the turns that remain. Between u32 and usize are casts and no TryFrom, whose error cannot come: no turn number and no count of turns is above 120
+// once the job has passed its test, and a usize has all numbers of 32 bits.
 ghost use Rattle.std.specs.Prelude.{◌≡◌};
 ghost use Rattle.refusals.specs.Outcomes.{outcome_number};
 ghost use Rattle.engine.specs.Run.{RunOutcome, run_reply, run_refusal_of, run_of};
@@ -16,8 +17,7 @@ pub struct Ran {
     pub clamps: Saturations,
 }
 
-// Stays a number beside values, since C reads it: the refusal's number, the next job, and of this call the turns, skipped ones included, the clamps in
-// R and the clamps in Q.
+// What C is answered: the refusal's number, the next job, and of this call the turns, skipped ones included, the clamps in R and the clamps in Q.
 #[repr(C)]
 #[derive(Clone, Copy)]
 pub struct RunReply {
@@ -52,7 +52,7 @@ impl RunReply {
     }
 }
 
-// Tests 3 and 5, in this order.
+// The tests, in this order: the workspace has room, and the job can be.
 #[tactic(auto, unfolding(crate::specs::Run::run_refusal_of), using(refusals::proofs::Outcomes::refused_first, refusals::proofs::Outcomes::passed_first))]
 pub fn check_run(job: Job, workspace: &[i32]) -> Result<(), Refusal>
     ensures { outcome_number result ≡ run_refusal_of job workspace.now }
@@ -68,7 +68,7 @@ pub fn run(job: Job, budget: u16, workspace: &mut [i32]) -> Result<Ran, Refusal>
     check_run(job, workspace)?;
     let first = job.turn as usize;
     let left = schedule::COUNT - first;
-    let count = (budget as usize).min(left);
+    let count = usize::from(budget).min(left);
     let tally = workspace::rotations::take_turns(first, count, workspace);
     let after = first + count;
     Ok(Ran {

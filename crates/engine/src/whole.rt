@@ -14,7 +14,7 @@ pub struct Factored {
     pub clamps: Saturations,
 }
 
-// Stays a number beside values, since C reads it: the refusal's number, the heard byte, the clamps in R and the clamps in Q.
+// What C is answered: the refusal's number, the heard byte, the clamps in R and the clamps in Q.
 #[repr(C)]
 #[derive(Clone, Copy)]
 pub struct WholeReply {
@@ -45,7 +45,7 @@ impl From<Result<Factored, Refusal>> for WholeReply {
     }
 }
 
-// Tests 1, 2, 3, 7 and 4: the record that the bytes are.
+// The record that the bytes are, tested in this order: its tag, its length, the workspace's room, the buffer's room, and that an antenna is heard.
 #[tactic(auto, unfolding(crate::specs::Whole::whole_refusal_of), using(refusals::proofs::Outcomes::refused_first, refusals::proofs::Outcomes::passed_first))]
 pub fn check_whole<'a>(
     bytes: &'a [u8],

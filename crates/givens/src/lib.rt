@@ -21,7 +21,8 @@ fn is_clear(part: &[i32], column: usize, gap: usize) -> bool
 
 // One turn of the part that begins at the upper row: its leading column is `column`, and the lower row is `gap` rows on. Answers
 // what it counts, and whether it is made. A clear one costs this test and no more. Columns that are short enough are worked in 32-bit
-// words, where no word saturates, and any others in 64-bit words. Both come to the same definition.
+// words, where no word saturates, and any others in 64-bit words. Both come to the same definition. Types for the bounds of `column` and of the part's
+// length would be no plainer: `turned` and `is_clear_of` take the part as one list beside these numbers (the head of `rows` says more).
 #[tactic(auto, unfolding(rotation::specs::Turn::turned, rotation::specs::Turn::turn_saturations, rotation::specs::Turn::turn_made))]
 pub fn rotate(part: &mut [i32], column: usize, gap: usize) -> Tally
     requires { (column < 16) × (1 ≤ gap) × (gap * 32 + 32 ≤ length part.old) }
@@ -29,14 +30,14 @@ pub fn rotate(part: &mut [i32], column: usize, gap: usize) -> Tally
     ensures saturations { result.saturations ≡ turn_saturations column gap part.old }
     ensures made { result.made ≡ turn_made column gap part.old }
 {
-    if is_clear(&part[..], column, gap) {
+    if is_clear(part, column, gap) {
         let saturations = Saturations::none();
         return Tally {
             made: 0,
             saturations,
         };
     }
-    let saturations = if narrow::norms_bounded(&part[..], gap * 32, column) {
+    let saturations = if narrow::norms_bounded(part, gap * 32, column) {
         let mut us = [Word32(0); 32];
         let mut vs = [Word32(0); 32];
         rows::rotate_in::<Word32>(part, column, gap, &mut us, &mut vs)

@@ -29,7 +29,7 @@ fn check_add(kind: u32, body: &[u8], used: usize, buffer: &[u8]) -> Result<Kind,
     Ok(known)
 }
 
-// Writes an entry behind the used bytes, or refuses and changes nothing. Answers the count of used bytes after it. The kind stays a number, since the C
+// Writes an entry behind the used bytes, or refuses and changes nothing. Answers the count of used bytes after it. The kind is a number, since the C
 // interface has numbers, and one that is no kind is refused.
 #[tactic(auto, using(crate::proofs::Calls::add_refused, crate::proofs::Calls::add_written))]
 pub fn add(

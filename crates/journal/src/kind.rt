@@ -6,6 +6,7 @@ ghost use Rattle.journal.specs.Kind.{kind_number, Decodes};
 
 use refusals::Refusal;
 
+// What the body of an entry is: a result record, the number of a refusal, or the heard byte of a matrix.
 #[derive(Clone, Copy, Debug, PartialEq, Eq)]
 pub enum Kind {
     ResultRecord,

@@ -1,6 +1,6 @@
 // A log in a lent buffer: results, refusals and heard bytes, one entry after another, each kept for as many days as its kind. Each call tests its own input,
-// the log first and whether an entry fits last, and refuses for the reason of the first test that fails. The caller keeps the count of used bytes,
-// which stays a number beside the buffer, as the C interface hands them.
+// the log first and whether an entry fits last, and refuses for the reason of the first test that fails. The caller keeps the count of used bytes:
+// a number beside the buffer, as the C interface hands them.
 
 #![tactic(auto)]
 
@@ -15,7 +15,7 @@ ghost use Rattle.journal.specs.Replies.{log_reply};
 
 use refusals::Refusal;
 
-// Stays a number beside a value, since C reads it: the refusal's number, and the count of used bytes after the call. A refusal answers 0 for it, and the count
+// What C is answered: the refusal's number, and the count of used bytes after the call. A refusal answers 0 for it, and the count
 // that the caller has goes on holding.
 #[repr(C)]
 #[derive(Clone, Copy)]

@@ -16,7 +16,7 @@ pub struct FoundEntry {
     pub body: Range<usize>,
 }
 
-// Stays a number beside values, since C reads it: the refusal's number, the entry's kind and day, where its body stands and how long that is, and where the
+// What C is answered: the refusal's number, the entry's kind and day, where its body stands and how long that is, and where the
 // next entry stands. At the end of the used bytes stands no entry, and the kind is 0.
 #[repr(C)]
 #[derive(Clone, Copy)]

@@ -11,7 +11,7 @@ ghost use Rattle.matrix_record.specs.MatrixRecord.{matrix_tag, matrix_bytes, par
 use refusals::Refusal;
 use words::signed16;
 
-// The first byte of a matrix record, and its length.
+// The first byte of a matrix record, and its length. A tag is a byte of the format, and each crate of a record knows its own alone.
 pub const TAG: u8 = 1;
 
 pub const BYTES: usize = 257;
@@ -19,7 +19,7 @@ pub const BYTES: usize = 257;
 // An antenna is heard when its real part on the diagonal is above this. A loose plug leaves one or two.
 const HEARD_ABOVE: i32 = 16;
 
-// The real (q is 0) or imaginary (q is 1) part of element e. An enum would be no plainer: the part stands 2 q bytes behind the element's first.
+// The real (q is 0) or imaginary (q is 1) part of element e. An enum would be no plainer: `part_of`, which the clauses cite, counts them 0 and 1.
 #[tactic(auto, unfolding(crate::specs::MatrixRecord::part_of), using(integers::proofs::Magnitude::read_back))]
 fn part(bytes: &[u8; BYTES], e: usize, q: usize) -> i32
     requires { (e < 64) × (q < 2) }
@@ -69,7 +69,7 @@ pub fn heard_byte(bytes: &[u8; BYTES]) -> u8
     heard
 }
 
-// Tests 1 and 2: the record that the bytes are.
+// The record that the bytes are: the tag is tested, then the length.
 pub fn check_header(bytes: &[u8]) -> Result<&[u8; BYTES], Refusal>
     ensures number { outcome_number result ≡ header_test matrix_tag matrix_bytes bytes.now }
     ensures same { IfOk result (λ checked. checked.now ≡ bytes.now) }
@@ -77,7 +77,7 @@ pub fn check_header(bytes: &[u8]) -> Result<&[u8; BYTES], Refusal>
     refusals::check_header(bytes, TAG)
 }
 
-// Tests 1, 2 and 4: the record that the bytes are.
+// The record that the bytes are: the tag is tested, then the length, then that an antenna is heard.
 #[tactic(auto, unfolding(crate::specs::MatrixRecord::matrix_refusal), using(refusals::proofs::Outcomes::refused_first, refusals::proofs::Outcomes::passed_first))]
 pub fn check_record(bytes: &[u8]) -> Result<&[u8; BYTES], Refusal>
     ensures number { outcome_number result ≡ matrix_refusal bytes.now }

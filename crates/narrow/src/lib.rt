@@ -13,19 +13,20 @@ ghost use Rattle.narrow.specs.Narrow.{Short, Bounded, norms_bounded_of, narrow_s
 use cordic::Word;
 use rows::Lane;
 
-// The largest u² + v² of a column that the 32-bit form takes: 2^60 + 2^44.
-const NORM_BOUND: u64 = 1152939096792891392;
+// The largest u² + v² of a column that the 32-bit form takes.
+const NORM_BOUND: u64 = (1 << 60) + (1 << 44);
 
 // The square of a word. The sum of two squares is 2^63 at most: it fits a u64, and not an i64.
 fn square(w: i32) -> u64
     ensures { (result ≡ square_of w) × (result ≤ 2 ^ 62) }
 {
-    let x = w as i64;
+    let x = i64::from(w);
     let y = x * x;
-    y as u64
+    y.unsigned_abs()
 }
 
-// Whether every column of the part from `column` on has a u² + v² within the bound.
+// Whether every column of the part from `column` on has a u² + v² within the bound. Types for the bounds of `column` and of the part's length would be no
+// plainer: `norms_bounded_of` takes the part as one list beside these numbers (the head of `rows` says more).
 pub fn norms_bounded(part: &[i32], base: usize, column: usize) -> bool
     requires { (column ≤ 32) × (base + 32 ≤ length part.now) }
     ensures { result ≡ norms_bounded_of base column part.now }
@@ -76,7 +77,7 @@ impl Lane for Word32 {
 
     // The gain is below 2^30, so that a 32-bit word stays one. The compiler sees that the tests for saturation never hold, and drops them.
     fn stored(self) -> Word {
-        Word::scale_saturate(self.0 as i64)
+        Word::scale_saturate(i64::from(self.0))
     }
 
     ghost stays = { narrow_stays };

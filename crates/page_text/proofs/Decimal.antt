@@ -1,16 +1,20 @@
--- Laws of numbers in decimal: one digit more, and how long they are. Assumes nothing.
+-- Laws of numbers in decimal: one digit more, that they are the library's text, and how long they are. Assumes nothing.
 use mathlib.Core.Path.{◌≡◌, refl, sym, ap, ◌∙◌}
-use mathlib.Core.List.{List, [], ◌∷◌, ◌++◌}
-use Prim.Native.Nat.{ℕ, zero, suc, ◌-◌, ◌/◌, ◌^◌, ◌≤◌, ◌<◌}
+use mathlib.Core.List.{List, [], ◌∷◌, ◌++◌, append-nil}
+use Prim.Native.Nat.{ℕ, zero, suc, ◌+◌, ◌-◌, ◌/◌, ◌%◌, ◌^◌, ◌≤◌, ◌<◌}
 use native.Mathlib.Decide.{dec_lt}
 use native.Mathlib.Nat.{div-lt_iff_lt-mul, pow-suc}
 use native.Mathlib.Omega.{arith}
 use borrow.Author.Tests.{lt-ltb, le-ltb}
 use lib.IntN.{ℤ, pos, negsuc}
-use lib.ListN.{length, replicate, length-append, length-replicate}
+use lib.ListN.{length, take, drop, replicate, length-append, length-replicate}
+use lib.Seq.{drop-drop}
 use mir.Syntax.{w32}
 use mir.Val.{SFits}
-use Rattle.page_text.specs.Decimal.{blank, last_digit, digits, decimalℕ, decimal, field}
+use Rattle.lists.proofs.Tabulate.{take-replicate}
+use Rattle.std.specs.Fmt as text
+use Rattle.std.proofs.lemmas.Fmt.{decimal_digit, decimal_step}
+use Rattle.page_text.specs.Decimal.{blank, minus, last_digit, digits, decimalℕ, decimal, field}
 
 -- ---- digits
 
@@ -44,6 +48,34 @@ room (suc k) n h = pick (dec_lt n 10) (room k (n / 10) (tenth n (suc k) h))
 pub decimal_more : (n : ℕ) → 10 ≤ n → n < 10 ^ 10 → decimalℕ n ≡ decimalℕ (n / 10) ++ last_digit n ∷ []
 decimal_more n h l = digits_above 8 n h ∙ ap (λ (ds : List ℕ). ds ++ last_digit n ∷ []) (room 8 (n / 10) (tenth n 9 l))
 
+-- ---- the text that the library writes is the decimal
+
+digit_text : (n : ℕ) → n < 10 → text.decimal n ≡ decimalℕ n
+digit_text n h = let e : n ≡ n % 10 = omega arith in decimal_digit n h ∙ ap (λ (k : ℕ). (48 + k) ∷ []) e ∙ sym (digits_below _ n h)
+
+digits_text : (k n : ℕ) → n < 10 ^ suc k → n < 10 ^ 10 → text.decimal n ≡ decimalℕ n
+digits_text zero n h l = digit_text n h
+digits_text (suc k) n h l = pick (dec_lt n 10) (digits_text k (n / 10) (tenth n (suc k) h) (omega arith))
+  where
+    pick : Dec (n < 10) → text.decimal (n / 10) ≡ decimalℕ (n / 10) → text.decimal n ≡ decimalℕ n
+    pick (yes s) e = digit_text n s
+    pick (no s) e = decimal_step n (omega arith) (omega arith) ∙ ap (λ (ds : List ℕ). ds ++ last_digit n ∷ []) e ∙ sym (decimal_more n (omega arith) l)
+
+decimal_text : (n : ℕ) → n < 10 ^ 10 → text.decimal n ≡ decimalℕ n
+decimal_text n h = digits_text 9 n h h
+
+plain_text : (n : ℕ) → text.decimal n ≡ decimalℕ n → text.signed_decimal (pos n) ≡ decimal (pos n)
+unfolding decimal
+plain_text n e = e
+
+signed_text : (n : ℕ) → text.decimal (suc n) ≡ decimalℕ (suc n) → text.signed_decimal (negsuc n) ≡ decimal (negsuc n)
+unfolding decimal
+signed_text n e = ap (λ (ds : List ℕ). minus ∷ ds) e
+
+pub word_text : (z : ℤ) → SFits w32 z → text.signed_decimal z ≡ decimal z
+word_text (pos n) f = plain_text n (decimal_text n (omega (arith, f.sfits)))
+word_text (negsuc n) f = signed_text n (decimal_text (suc n) (omega (arith, f.sfits)))
+
 -- ---- lengths
 
 -- a number below 10 ^ (e + 1) has e + 1 digits at most
@@ -67,3 +99,16 @@ unfolding field
 field-length z f =
     let d = decimal-length z f in
     length-append (replicate (12 - length (decimal z)) blank) (decimal z) ∙ simp length-replicate (omega arith)
+
+-- ---- columns
+
+-- the decimal, put over the last of 12 blanks
+pub put_right : (z : ℤ) (t : List ℕ) → SFits w32 z → t ≡ decimal z
+    → take (12 - length t) (replicate 12 blank) ++ (t ++ drop (12 - (12 - length t)) (drop (12 - length t) (replicate 12 blank))) ≡ field z
+unfolding field
+put_right z t f e =
+    let k : length t ≤ 11 = rw e (decimal-length z f) in
+    let all : 12 - length t + (12 - (12 - length t)) ≡ 12 = omega arith in
+    let none : drop (12 - (12 - length t)) (drop (12 - length t) (replicate 12 blank)) ≡ [] =
+    drop-drop (12 - (12 - length t)) (12 - length t) (replicate 12 blank) ∙ ap (λ (n : ℕ). drop n (replicate 12 blank)) all in
+    rw (none, append-nil, take-replicate (12 - length t) 12 blank (omega arith)) (ap (λ (x : List ℕ). replicate (12 - length x) blank ++ x) e)

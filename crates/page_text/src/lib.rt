@@ -3,10 +3,13 @@
 #![tactic(auto)]
 
 ghost use Rattle.std.specs.Prelude.{◌≡◌, ◌++◌, ◌<◌, ◌≤◌, length, drop};
+ghost use Rattle.refusals.specs.Outcomes.{number_of};
 ghost use Rattle.result_record.specs.ResultRecord.{record_r};
 ghost use Rattle.page_text.specs.Decimal.{field};
 ghost use Rattle.page_text.specs.Page.{line_of, page_of_r, refusal_line, page_of};
 
+use itoa::Buffer;
+use refusals::Refusal;
 use result_record::{BYTES, r};
 
 // Columns of a word.
@@ -17,24 +20,14 @@ const LINE: usize = 193;
 
 pub const PAGE: usize = 3088;
 
-// A word in its columns: the digits from the last on, the sign before them, and blanks. They are put by hand, since no clause of std says what
-// `write!` leaves in a slice.
+// A word in its columns, behind blanks.
 fn word_columns(w: i32) -> [u8; COLUMNS]
     ensures { result ≡ field w }
 {
+    let mut buffer = Buffer::new();
+    let text = buffer.format(w).as_bytes();
     let mut columns = [b' '; COLUMNS];
-    let mut n = w.unsigned_abs();
-    let mut at = COLUMNS;
-    while 9 < n {
-        at -= 1;
-        columns[at] = b'0' + (n % 10) as u8;
-        n /= 10;
-    }
-    at -= 1;
-    columns[at] = b'0' + (n % 10) as u8;
-    if w < 0 {
-        columns[at - 1] = b'-';
-    }
+    columns[COLUMNS - text.len()..].copy_from_slice(text);
     columns
 }
 
@@ -62,12 +55,13 @@ fn put_page(bytes: &[u8; BYTES], page: &mut [u8; PAGE])
     }
 }
 
-// Puts the number of a refusal at the start of output, and leaves the rest. A `Refusal` would be no plainer: `refusal_line` is of any number.
+// Puts the number of a refusal at the start of output, and leaves the rest.
 #[tactic(auto, unfolding(crate::specs::Page::refusal_line), using(lists::proofs::Joined::put_one))]
-fn put_refusal(number: u8, output: &mut [u8; PAGE])
-    ensures { output.new ≡ refusal_line number ++ drop 13 output.old }
+fn put_refusal(refusal: Refusal, output: &mut [u8; PAGE])
+    ensures { output.new ≡ refusal_line (number_of refusal) ++ drop 13 output.old }
 {
-    output[..COLUMNS].copy_from_slice(&word_columns(i32::from(number)));
+    let number = i32::from(refusal.number());
+    output[..COLUMNS].copy_from_slice(&word_columns(number));
     output[COLUMNS] = b'\n';
 }
 
@@ -84,7 +78,7 @@ pub fn page_text(input: &[u8], output: &mut [u8; PAGE]) -> usize
             PAGE
         }
         Err(refusal) => {
-            put_refusal(refusal.number(), output);
+            put_refusal(refusal, output);
             COLUMNS + 1
         }
     }

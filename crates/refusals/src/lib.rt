@@ -6,6 +6,9 @@ ghost use Rattle.std.specs.Prelude.{◌≡◌, IfOk};
 ghost use Rattle.refusals.specs.Refusals.{header_test, refusal_record_of};
 ghost use Rattle.refusals.specs.Outcomes.{number_of, outcome_number};
 
+// The first byte of a refusal record: a byte of the format, as the `tag` that `check_header` takes.
+const TAG: u8 = 3;
+
 // Why a call refuses. Replies and refusal records carry its number.
 #[derive(Clone, Copy, Debug, PartialEq, Eq)]
 pub enum Refusal {
@@ -64,7 +67,8 @@ pub fn reply_number(outcome: Result<(), Refusal>) -> u8
     }
 }
 
-// Tests 1 and 2: the record of this tag and of N bytes that the bytes are.
+// The test of the tag, then that of the length: the record of this tag and of N bytes that the bytes are. A tag is a byte of the format, and each
+// record's crate knows its own alone: an enum of tags would join what no crate reads together.
 #[tactic(auto, unfolding(crate::specs::Refusals::header_test))]
 pub fn check_header<const N: usize>(bytes: &[u8], tag: u8) -> Result<&[u8; N], Refusal>
     ensures number { outcome_number result ≡ header_test tag N bytes.now }
@@ -76,9 +80,9 @@ pub fn check_header<const N: usize>(bytes: &[u8], tag: u8) -> Result<&[u8; N], R
     bytes.try_into().map_err(|_| Refusal::WrongLength)
 }
 
-// The record of a refusal: its tag, and the number. It takes the number, whatever that is: a `Refusal` would ask more of callers than `refusal_record` does.
+// The record of a refusal: its tag, and the number. Any number, and no `Refusal`, which would ask more of callers.
 pub fn refusal_record(number: u8) -> [u8; 2]
     ensures { result ≡ refusal_record_of number }
 {
-    [3, number]
+    [TAG, number]
 }

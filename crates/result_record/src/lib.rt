@@ -11,7 +11,7 @@ ghost use Rattle.result_record.specs.ResultRecord.{result_tag, result_bytes, rec
 use refusals::Refusal;
 use words::signed32;
 
-// The first byte of a result record, and its length.
+// The first byte of a result record, and its length. A tag is a byte of the format, and each crate of a record knows its own alone.
 pub const TAG: u8 = 2;
 
 pub const BYTES: usize = 2049;
@@ -84,7 +84,7 @@ pub fn record_finished(bytes: &[u8; BYTES]) -> bool
     true
 }
 
-// Tests 1 and 2: the record that the bytes are.
+// The record that the bytes are: the tag is tested, then the length.
 pub fn check_header(bytes: &[u8]) -> Result<&[u8; BYTES], Refusal>
     ensures number { outcome_number result ≡ header_test result_tag result_bytes bytes.now }
     ensures same { IfOk result (λ checked. checked.now ≡ bytes.now) }
@@ -92,7 +92,8 @@ pub fn check_header(bytes: &[u8]) -> Result<&[u8; BYTES], Refusal>
     refusals::check_header(bytes, TAG)
 }
 
-// Tests 1, 2 and 8: the record that the bytes are.
+// The record that the bytes are: the tag is tested, then the length, then that R is upper triangular, with no negative word among the first 15 of its
+// diagonal.
 #[tactic(auto, unfolding(crate::specs::ResultRecord::record_refusal_of), using(refusals::proofs::Outcomes::refused_first, refusals::proofs::Outcomes::passed_first))]
 pub fn check_record(bytes: &[u8]) -> Result<&[u8; BYTES], Refusal>
     ensures number { outcome_number result ≡ record_refusal_of bytes.now }

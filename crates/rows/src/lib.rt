@@ -132,7 +132,7 @@ fn store_columns<W: Lane>(
         let lower = vs[from + n].stored();
         part[column + from + n] = upper.value;
         part[base + (column + from + n)] = lower.value;
-        saturations += upper.saturated as u32 + lower.saturated as u32;
+        saturations += u32::from(upper.saturated) + u32::from(lower.saturated);
     }
     saturations
 }
@@ -146,7 +146,7 @@ fn store_leading<W: Lane>(part: &mut [i32], base: usize, column: usize, u: W) ->
     let upper = u.stored();
     part[column] = upper.value;
     part[base + column] = 0;
-    upper.saturated as u32
+    u32::from(upper.saturated)
 }
 
 // Stores the columns from the leading one on, those of R and then those of Q; answers their saturations, which are told by side where
@@ -171,7 +171,8 @@ fn store_rows<W: Lane>(
 }
 
 // One rotation of the part that begins at the upper row, with two rows to work in: its leading column is `column`, and the lower row
-// is `gap` rows on.
+// is `gap` rows on. The rows are lent: with a constant `ZERO` of `Lane` to make them of, the proof didn't close, since nothing bounds
+// the size of a `W`, and only a caller with a word type in hand knows it.
 pub fn rotate_in<W: Lane>(
     part: &mut [i32],
     column: usize,

@@ -44,7 +44,8 @@ type Records<'a> = (
     &'a [u8; result_record::BYTES],
 );
 
-// The records that the bytes are: tests 1, 2 and 4 on the matrix, then 1, 2 and 8 on the result.
+// The records that the bytes are: the matrix's tag is tested, its length, and that an antenna is heard; then the result's tag, its length, and that R is
+// upper triangular, with no negative word among the first 15 of its diagonal.
 #[tactic(auto, unfolding(crate::specs::Verify::verify_refusal_of), using(refusals::proofs::Outcomes::refused_first, refusals::proofs::Outcomes::passed_first))]
 fn check_verify<'a>(matrix: &'a [u8], res: &'a [u8]) -> Result<Records<'a>, Refusal>
     ensures number { outcome_number result ≡ verify_refusal_of matrix.now res.now }
@@ -60,9 +61,9 @@ pub fn verify(matrix: &[u8], res: &[u8]) -> Result<bool, Refusal>
     ensures { verdict result ≡ verdict_of matrix.now res.now }
 {
     let (input, output) = check_verify(matrix, res)?;
-    let mut loaded = [0; 512];
-    fill(input, &mut loaded[..]);
-    let mut words = [0; 512];
-    fill(output, &mut words[..]);
+    let mut loaded = [0; workspace::WORDS];
+    fill(input, &mut loaded);
+    let mut words = [0; workspace::WORDS];
+    fill(output, &mut words);
     Ok(all_near(&words, &loaded))
 }

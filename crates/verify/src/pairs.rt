@@ -6,9 +6,10 @@ ghost use Rattle.lists.specs.Lists.{all_below};
 ghost use Rattle.verify.specs.Sums.{is_near};
 
 use crate::sums::{column_products, near};
+use workspace::WORDS;
 
 // Whether pair number k, row k / 32 and column k % 32, is near.
-fn pair_near(words: &[i32; 512], loaded: &[i32; 512], k: usize) -> bool
+fn pair_near(words: &[i32; WORDS], loaded: &[i32; WORDS], k: usize) -> bool
     requires { k < 512 }
     ensures { result ≡ is_near words.now loaded.now k }
 {
@@ -18,10 +19,10 @@ fn pair_near(words: &[i32; 512], loaded: &[i32; 512], k: usize) -> bool
 }
 
 // Whether all are.
-pub fn all_near(words: &[i32; 512], loaded: &[i32; 512]) -> bool
+pub fn all_near(words: &[i32; WORDS], loaded: &[i32; WORDS]) -> bool
     ensures { result ≡ all_below 512 (is_near words.now loaded.now) }
 {
-    for k in 0..512 {
+    for k in 0..WORDS {
         if !pair_near(words, loaded, k) {
             return false;
         }

@@ -4,11 +4,16 @@ ghost use Rattle.integers.specs.Within.{is_within};
 ghost use Rattle.workspace.specs.Workspace.{word_in};
 ghost use Rattle.accuracy.specs.Factorization.{gram, error_limit};
 
-// The limit, 2^44, either way.
-const LIMIT: u128 = 17592186044416;
+use workspace::WORDS;
+
+// The limit, either way.
+const LIMIT: u128 = 1 << 44;
+
+// One, as the words of Q have it.
+const ONE: i128 = 1 << 30;
 
 // The sum of the products of columns a and b of a workspace.
-pub fn column_products(words: &[i32; 512], a: usize, b: usize) -> i128
+pub fn column_products(words: &[i32; WORDS], a: usize, b: usize) -> i128
     requires { (a < 32) × (b < 32) }
     ensures number { result ≡ gram (word_in words.now) a b }
     ensures small { nat_abs result ≤ 2 ^ 66 }
@@ -26,6 +31,6 @@ pub fn near(sum: i128, word: i32) -> bool
     requires { nat_abs sum ≤ 2 ^ 66 }
     ensures { result ≡ is_within (sum -ℤ pos (2 ^ 30) *ℤ word) error_limit }
 {
-    let error = sum - 1073741824 * i128::from(word);
+    let error = sum - ONE * i128::from(word);
     error.unsigned_abs() <= LIMIT
 }

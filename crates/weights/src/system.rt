@@ -1,4 +1,5 @@
 // The system that the weights solve, in 16 real parts: R times w = Q transposed times the target. Each row gives a component of the solution.
+// Rows, columns and parts are numbers with a bound: a type of 16 values would be no plainer, since callers count through them.
 ghost use Rattle.std.specs.Prelude.{◌≡◌, ◌<◌, ◌≤◌, ◌-◌, ◌^◌, nat_abs};
 ghost use Rattle.lists.specs.Lists.{tabulate};
 ghost use Rattle.result_record.specs.ResultRecord.{record_r, record_q};

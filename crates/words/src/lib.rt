@@ -1,6 +1,7 @@
 // Bytes and words: high byte first, and two's complement where they are signed. Each function is the library's method, and its clause says what it answers
-// by sums of bytes, in which the laws of the records speak. One generic function over the three widths would be no plainer: no trait of the library has
-// these methods, and one of this crate's own would have a body for each width again.
+// by sums of bytes, in which the laws of the records speak. One generic function over the three widths would be no plainer: no trait of `std` has these
+// methods, one of this crate's own would have a body for each width again, and those of the kit's crate `num_traits` would be a dependency for three
+// bodies of one line. `unsigned32` and `signed32` take four bytes and no array, since `uint32` and `int32`, which their clauses cite, do.
 
 #![tactic(auto)]
 

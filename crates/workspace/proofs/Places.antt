@@ -11,6 +11,7 @@ use lib.ListN.{get_or}
 use Rattle.lists.specs.Lists.{all_below}
 use Rattle.lists.proofs.Passing.{all_at}
 use Rattle.words.specs.Words.{byte_of, word_bytes}
+use Rattle.matrix_record.proofs.Writing.{Values}
 use Rattle.result_record.specs.ResultRecord.{result_word, result_byte}
 use Rattle.result_record.proofs.ResultRecord as result
 use Rattle.workspace.specs.Workspace.{word_in, R, Q}
@@ -39,17 +40,11 @@ byte_at : (l : List ℤ) (p m q : ℕ) → m < 512 → q < 4 → p ≡ 1 + 4 * m
 byte_at l p m q b h e = result.byte_at (R l) (Q l) p m q h e ∙ ap (λ (z : ℤ). byte_of z q) (sym (word_is l m b))
 
 -- the four bytes of word m are the record's bytes from 1 + 4 * m on
-pub record Four (l : List ℤ) (m : ℕ) (bs : List ℕ) : Type 0 where
-  pub b₀ : get_or bs 0 0 ≡ result_byte (R l) (Q l) (1 + 4 * m)
-  pub b₁ : get_or bs 1 0 ≡ result_byte (R l) (Q l) (1 + 4 * m + 1)
-  pub b₂ : get_or bs 2 0 ≡ result_byte (R l) (Q l) (1 + 4 * m + 2)
-  pub b₃ : get_or bs 3 0 ≡ result_byte (R l) (Q l) (1 + 4 * m + 3)
-
-pub bytes_at : (l : List ℤ) (m : ℕ) (bs : List ℕ) → m < 512 → bs ≡ word_bytes (get_or l (place_of m) (pos 0)) → Four l m bs
-bytes_at l m bs b e =
-    record {
-      b₀ = ap (λ (x : List ℕ). get_or x 0 0) e ∙ sym (byte_at l (1 + 4 * m) m 0 b (omega arith) (omega arith));
-      b₁ = ap (λ (x : List ℕ). get_or x 1 0) e ∙ sym (byte_at l (1 + 4 * m + 1) m 1 b (omega arith) refl);
-      b₂ = ap (λ (x : List ℕ). get_or x 2 0) e ∙ sym (byte_at l (1 + 4 * m + 2) m 2 b (omega arith) refl);
-      b₃ = ap (λ (x : List ℕ). get_or x 3 0) e ∙ sym (byte_at l (1 + 4 * m + 3) m 3 b (omega arith) refl);
-    }
+pub word_values : (l : List ℤ) (m : ℕ) → m < 512 → Values (result_byte (R l) (Q l)) (1 + 4 * m) (word_bytes (get_or l (place_of m) (pos 0)))
+unfolding Values
+word_values l m b =
+    let first = sym (byte_at l (1 + 4 * m) m 0 b (omega arith) (omega arith)) in
+    let second = sym (byte_at l (1 + 4 * m + 1) m 1 b (omega arith) refl) in
+    let third = sym (byte_at l (1 + 4 * m + 1 + 1) m 2 b (omega arith) (omega arith)) in
+    let fourth = sym (byte_at l (1 + 4 * m + 1 + 1 + 1) m 3 b (omega arith) (omega arith)) in
+    (first, (second, (third, (fourth, tt))))

@@ -42,11 +42,7 @@ pub fn write(workspace: &[i32], buffer: &mut [u8])
     for m in 0..crate::WORDS {
         let at = place(m);
         let w = workspace[at];
-        let b = word_bytes(w);
         let p = 1 + 4 * m;
-        buffer[p] = b[0];
-        buffer[p + 1] = b[1];
-        buffer[p + 2] = b[2];
-        buffer[p + 3] = b[3];
+        buffer[p..p + 4].copy_from_slice(&word_bytes(w));
     }
 }

@@ -1,5 +1,5 @@
 -- The square of a 32-bit word is at most 2^62. Assumes nothing.
-use Rattle.std.proofs.Common.{arith, ◌^◌, ◌≤◌, refl}
+use Rattle.std.proofs.Common.{◌≡◌, ◌^◌, ◌≤◌, ◌∙◌, arith, refl}
 use native.Mathlib.Nat.{mul-le-mul}
 use lib.IntN.{ℤ, ◌*ℤ◌}
 use lib.Signed.{nat_abs-le}
@@ -22,4 +22,5 @@ product w f = rw (square_is w) (record { sfits = omega (arith, square-most w f) 
 pub returns : goal.returns
 returns c =
     let f = c.ranges.w in
-    rw (to_z-of_z f, to_z-of_z (wide f), to_z-of_z (product c.args.w f), square_is c.args.w) (refl, square-most c.args.w f)
+    let e : c.unsigned_abs.result ≡ square c.args.w = c.unsigned_abs.ensures.value ∙ rw (c.from-x.ensures, to_z-of_z f, to_z-of_z (wide f), to_z-of_z (product c.args.w f), square_is c.args.w) refl in
+    (e, rw e (square-most c.args.w f))

@@ -47,7 +47,7 @@ loop-n-preserved g c =
     let x : SFits w32 a.result.value = search rules in
     let y : SFits w32 b.result.value = search rules in
     record {
-      few = omega (arith, byte_le a.result.saturated, byte_le b.result.saturated);
+      few = omega (arith, c.from-in-loop-n.ensures, byte_le a.result.saturated, c.from.ensures, byte_le b.result.saturated);
       done = rw (add-one, ← l.invariant.done, to_z-of_z x, to_z-of_z y, ← upper, ← lower);
-      sum = rw add-one (ap₂ (λ (m n : ℕ). m + n) l.invariant.sum (ap₂ (λ (x y : Word). bool_byte x.saturated + bool_byte y.saturated) upper lower));
+      sum = rw (add-one, c.from-in-loop-n.ensures, c.from.ensures) (ap₂ (λ (m n : ℕ). m + n) l.invariant.sum (ap₂ (λ (x y : Word). bool_byte x.saturated + bool_byte y.saturated) upper lower));
     }

@@ -1,15 +1,16 @@
--- The tag, and then the two bytes of one part after another.
-use Rattle.std.proofs.Common.{◌≡◌, refl, ap, ◌∙◌, ◌+◌, ◌*◌, arith, length-set, ℤ, w64}
+-- The tag, and then the two bytes of one part after another, in the part of the buffer that is lent for them.
+use Rattle.std.proofs.Common.{◌≡◌, refl, ap, ◌∙◌, ◌+◌, ◌-◌, ◌*◌, arith, ℤ, w64}
 use mir.Syntax.{w16}
 use Rattle.integers.proofs.Magnitude.{read_back}
-use Rattle.lists.proofs.Filling.{fill-first, fill-two, fill_over, fill_done}
+use Rattle.lists.proofs.Filling.{fill-first, fill_over, fill_done}
 use Rattle.lists.proofs.Tabulate.{filled_all}
 use Rattle.words.specs.Words.{int16_bytes_of}
+use Rattle.matrix_record.proofs.Writing.{fill_part}
 use Rattle.matrix_record.specs.MatrixRecord.{matrix_byte, matrix_record_of}
 use Rattle.covariance.specs.Sums.{sum_at}
 use Rattle.covariance.specs.WriteMatrix.{normalized, element_part}
 use Rattle.covariance.proofs.Accepted.{near}
-use Rattle.covariance.proofs.Elements.{part_bytes}
+use Rattle.covariance.proofs.Elements.{part_values}
 use Rattle.covariance.proofs.Machine.{read}
 use Rattle.covariance.proofs.Sums.write_record.Goals as goal
 
@@ -17,8 +18,8 @@ pub loop-n-init : goal.loop-n-init
 unfolding matrix_byte
 loop-n-init c = fill-first 257 (matrix_byte (element_part c.args.self.now.count c.args.self.now.words)) c.args.buffer.now 1 (omega arith) (omega arith) refl
 
-pub normalize-requires : goal.normalize-requires
-normalize-requires c =
+pub normalize-part-requires : goal.normalize-part-requires
+normalize-part-requires c =
     let z : ℤ = sum_at c.args.self.now.words c.loop-n.n in
     let e : read z ≡ z = read_back w64 (omega arith) in
     (c.requires.0, rw e (near c.args.self.now.count c.args.self.now.words c.requires.1 _ c.loop-n-test.true))
@@ -30,11 +31,12 @@ loop-n-preserved c =
     let n = c.loop-n.n in
     let z : ℤ = sum_at words n in
     let s : read z ≡ z = read_back w64 (omega arith) in
-    let part = c.normalize in
+    let part = c.normalize-part in
     let e = read_back w16 part.type_inv ∙ part.ensures ∙ ap (normalized count) s in
-    let b = part_bytes count words n c.int16_bytes-b.result (c.int16_bytes-b.ensures ∙ ap int16_bytes_of e) in
-    let t : 1 + 2 * n + 2 ≡ 1 + 2 * (n + 1) = omega arith in
-    rw t at (fill-two c.loop-n.invariant (omega arith) (simp length-set (omega arith)) b.0 b.1)
+    let put = c.copy_from_slice.ensures.after ∙ c.int16_bytes.ensures ∙ ap int16_bytes_of e in
+    let two : 1 + 2 * n + 2 - (1 + 2 * n) ≡ 2 = omega arith in
+    let next : 1 + 2 * n + 2 ≡ 1 + 2 * (n + 1) = omega arith in
+    rw (put, two) (rw next at (fill_part _ c.loop-n.invariant (omega arith) (omega arith) (part_values count words n)))
 
 pub returns : goal.returns
 unfolding matrix_record_of

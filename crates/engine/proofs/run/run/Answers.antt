@@ -28,4 +28,4 @@ pub returns : goal.returns
 unfolding run_of run_by run_done next_job
 returns c =
     let t = c.take_turns-tally.ensures in
-    rw (← c.in_ok-check_run.ensures, ← c.min-count.ensures, t.words, t.saturations, t.made)
+    rw (← c.in_ok-check_run.ensures, ← c.from.ensures, ← c.min-count.ensures, t.words, t.saturations, t.made)

@@ -1,14 +1,15 @@
--- Four bytes more are written. Assumes nothing.
-use Rattle.std.proofs.Common.{◌≡◌, ℕ, ◌+◌, ◌*◌, ◌∙◌, ap, refl, rules, arith, w32, length-set}
+-- Four bytes more are written, in the part of the buffer that is lent for them. Assumes nothing.
+use Rattle.std.proofs.Common.{◌≡◌, ℕ, ◌+◌, ◌-◌, ◌*◌, ◌∙◌, ap, refl, rules, arith, w32, length-set}
 use lib.IntN.{pos}
 use lib.ListN.{get_or}
 use mir.Val.{SFits}
 use mir.Facts.{to_z-of_z}
-use Rattle.lists.proofs.Filling.{fill-first, fill_four, fill_over, fill_done}
+use Rattle.lists.proofs.Filling.{fill-first, fill_over, fill_done}
+use Rattle.matrix_record.proofs.Writing.{fill_part}
 use Rattle.result_record.specs.ResultRecord.{result_byte}
 use Rattle.words.specs.Words.{word_bytes}
 use Rattle.workspace.specs.Workspace.{R, Q}
-use Rattle.workspace.proofs.Places.{bytes_at}
+use Rattle.workspace.proofs.Places.{word_values}
 use Rattle.workspace.proofs.result.write.Goals as goal
 
 pub loop-m-init : goal.loop-m-init
@@ -24,13 +25,13 @@ loop-m-preserved c =
     let l = c.loop-m in
     let workspace = c.args.workspace.now in
     let f : SFits w32 (get_or workspace c.place-at.result (pos 0)) = search rules in
-    let v =
-    bytes_at workspace l.m c.word_bytes-b.result c.loop-m-test.true
-    (c.word_bytes-b.ensures ∙ ap word_bytes (to_z-of_z f ∙ ap (λ (n : ℕ). get_or workspace n (pos 0)) c.place-at.ensures)) in
-    let e : 1 + 4 * l.m + 4 ≡ 1 + 4 * (l.m + 1) = omega arith in
+    let word = to_z-of_z f ∙ ap (λ (n : ℕ). get_or workspace n (pos 0)) c.place-at.ensures in
+    let put = c.copy_from_slice.ensures.after ∙ c.word_bytes.ensures ∙ ap word_bytes word in
+    let four : 1 + 4 * l.m + 4 - (1 + 4 * l.m) ≡ 4 = omega arith in
+    let next : 1 + 4 * l.m + 4 ≡ 1 + 4 * (l.m + 1) = omega arith in
     record {
       room = l.invariant.room;
-      done = rw e at (fill_four l.invariant.done (omega arith) l.invariant.room v.b₀ v.b₁ v.b₂ v.b₃);
+      done = rw (put, four) (rw next at (fill_part _ l.invariant.done (omega arith) l.invariant.room (word_values workspace l.m c.loop-m-test.true)));
     }
 
 pub returns : goal.returns
