@@ -7,6 +7,7 @@ ghost use Rattle.journal.specs.Add.{log_add_refusal, log_add_of};
 ghost use Rattle.journal.specs.Kind.{kind_number};
 ghost use Rattle.journal.specs.Replies.{log_reply};
 
+use crate::copy::put;
 use crate::format::{HEAD_BYTES, Head, check_log};
 use crate::kind::Kind;
 use refusals::Refusal;
@@ -46,6 +47,6 @@ pub fn add(
     let at = used + HEAD_BYTES;
     let end = at + body.len();
     buffer[used..at].copy_from_slice(&head.bytes());
-    buffer[at..end].copy_from_slice(body);
+    put(body, &mut buffer[at..end]);
     Ok(end)
 }

@@ -5,6 +5,7 @@
 #![tactic(auto)]
 
 pub mod add;
+mod copy;
 mod format;
 pub mod kind;
 pub mod next;

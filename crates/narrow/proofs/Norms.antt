@@ -1,5 +1,5 @@
 -- Columns whose u² + v² is at most 2^60 + 2^44, by the test of a part. Assumes nothing.
-use Prim.Native.Nat.{ℕ, ◌+◌, ◌≤◌, ◌<◌}
+use Prim.Native.Nat.{ℕ, ◌+◌, ◌*◌, ◌≤◌, ◌<◌}
 use mathlib.Core.Path.{◌≡◌}
 use mathlib.Core.Bool.{true}
 use mathlib.Core.List.{List}
@@ -12,6 +12,9 @@ use Rattle.integers.proofs.Laws.{abs_squares}
 use Rattle.integers.specs.Square.{square}
 use Rattle.lists.proofs.Passing.{Passed, all_at, all_of}
 use Rattle.cordic.specs.Norm.{norm_bound}
+use Rattle.rotation.specs.Rotated.{saturations_of}
+use Rattle.rotation.specs.Saturations.{no_saturations}
+use Rattle.rotation.proofs.Column.{saturations_none}
 use Rattle.rows.specs.Lanes.{words_at}
 use Rattle.narrow.specs.Narrow.{Bounded, norm_bounded, norms_bounded_of}
 
@@ -37,3 +40,9 @@ pub bounded_columns : (base c : ℕ) (l : List ℤ) → norms_bounded_of base c 
 unfolding words_at
 bounded_columns base c l h k from below =
     record { norm = within (rw (abs_squares (get_or l k (pos 0)) (get_or l (base + k) (pos 0))) (bounded_at base c l k from h below)) }
+
+-- where the test holds, the rotation counts nothing
+pub bounded_none : (c gap : ℕ) (l : List ℤ) → norms_bounded_of (gap * 32) c l ≡ true → saturations_of c gap l ≡ no_saturations
+bounded_none c gap l h =
+    saturations_none c gap l
+    (λ k from below. within (rw (abs_squares (get_or l k (pos 0)) (get_or l (gap * 32 + k) (pos 0))) (bounded_at (gap * 32) c l k from h below)))

@@ -1,20 +1,18 @@
 -- Laws of numbers in decimal: one digit more, that they are the library's text, and how long they are. Assumes nothing.
 use mathlib.Core.Path.{◌≡◌, refl, sym, ap, ◌∙◌}
-use mathlib.Core.List.{List, [], ◌∷◌, ◌++◌, append-nil}
+use mathlib.Core.List.{List, [], ◌∷◌, ◌++◌}
 use Prim.Native.Nat.{ℕ, zero, suc, ◌+◌, ◌-◌, ◌/◌, ◌%◌, ◌^◌, ◌≤◌, ◌<◌}
 use native.Mathlib.Decide.{dec_lt}
 use native.Mathlib.Nat.{div-lt_iff_lt-mul, pow-suc}
 use native.Mathlib.Omega.{arith}
 use borrow.Author.Tests.{lt-ltb, le-ltb}
 use lib.IntN.{ℤ, pos, negsuc}
-use lib.ListN.{length, take, drop, replicate, length-append, length-replicate}
-use lib.Seq.{drop-drop}
+use lib.ListN.{length, replicate, length-append, length-replicate}
 use mir.Syntax.{w32}
 use mir.Val.{SFits}
-use Rattle.lists.proofs.Tabulate.{take-replicate}
 use Rattle.std.specs.Fmt as text
 use Rattle.std.proofs.lemmas.Fmt.{decimal_digit, decimal_step}
-use Rattle.page_text.specs.Decimal.{blank, minus, last_digit, digits, decimalℕ, decimal, field}
+use Rattle.page_text.specs.Decimal.{blank, last_digit, digits, decimalℕ, decimal, field}
 
 -- ---- digits
 
@@ -61,20 +59,8 @@ digits_text (suc k) n h l = pick (dec_lt n 10) (digits_text k (n / 10) (tenth n 
     pick (yes s) e = digit_text n s
     pick (no s) e = decimal_step n (omega arith) (omega arith) ∙ ap (λ (ds : List ℕ). ds ++ last_digit n ∷ []) e ∙ sym (decimal_more n (omega arith) l)
 
-decimal_text : (n : ℕ) → n < 10 ^ 10 → text.decimal n ≡ decimalℕ n
+pub decimal_text : (n : ℕ) → n < 10 ^ 10 → text.decimal n ≡ decimalℕ n
 decimal_text n h = digits_text 9 n h h
-
-plain_text : (n : ℕ) → text.decimal n ≡ decimalℕ n → text.signed_decimal (pos n) ≡ decimal (pos n)
-unfolding decimal
-plain_text n e = e
-
-signed_text : (n : ℕ) → text.decimal (suc n) ≡ decimalℕ (suc n) → text.signed_decimal (negsuc n) ≡ decimal (negsuc n)
-unfolding decimal
-signed_text n e = ap (λ (ds : List ℕ). minus ∷ ds) e
-
-pub word_text : (z : ℤ) → SFits w32 z → text.signed_decimal z ≡ decimal z
-word_text (pos n) f = plain_text n (decimal_text n (omega (arith, f.sfits)))
-word_text (negsuc n) f = signed_text n (decimal_text (suc n) (omega (arith, f.sfits)))
 
 -- ---- lengths
 
@@ -88,6 +74,18 @@ digits-length (suc k) (suc e) n h = pick (dec_lt n 10) (digits-length k e (n / 1
     pick (yes s) d = rw (digits_below (suc k) n s) (omega arith)
     pick (no s) d = rw (digits_above k n (omega arith), length-append (digits k (n / 10)) (last_digit n ∷ [])) (omega arith)
 
+-- nor has any number no digit
+some_digit : (k n : ℕ) → 1 ≤ length (digits k n)
+some_digit zero n = rw (digits-none n) (omega arith)
+some_digit (suc k) n = pick (dec_lt n 10)
+  where
+    pick : Dec (n < 10) → 1 ≤ length (digits (suc k) n)
+    pick (yes s) = rw (digits_below (suc k) n s) (omega arith)
+    pick (no s) = rw (digits_above k n (omega arith), length-append (digits k (n / 10)) (last_digit n ∷ [])) (omega arith)
+
+pub ten_digits : (n : ℕ) → n < 10 ^ 10 → (1 ≤ length (decimalℕ n)) × (length (decimalℕ n) ≤ 10)
+ten_digits n h = (some_digit 9 n, digits-length 9 9 n h)
+
 -- no word of 32 bits takes more than 11 columns
 pub decimal-length : (z : ℤ) → SFits w32 z → length (decimal z) ≤ 11
 unfolding decimal
@@ -99,16 +97,3 @@ unfolding field
 field-length z f =
     let d = decimal-length z f in
     length-append (replicate (12 - length (decimal z)) blank) (decimal z) ∙ simp length-replicate (omega arith)
-
--- ---- columns
-
--- the decimal, put over the last of 12 blanks
-pub put_right : (z : ℤ) (t : List ℕ) → SFits w32 z → t ≡ decimal z
-    → take (12 - length t) (replicate 12 blank) ++ (t ++ drop (12 - (12 - length t)) (drop (12 - length t) (replicate 12 blank))) ≡ field z
-unfolding field
-put_right z t f e =
-    let k : length t ≤ 11 = rw e (decimal-length z f) in
-    let all : 12 - length t + (12 - (12 - length t)) ≡ 12 = omega arith in
-    let none : drop (12 - (12 - length t)) (drop (12 - length t) (replicate 12 blank)) ≡ [] =
-    drop-drop (12 - (12 - length t)) (12 - length t) (replicate 12 blank) ∙ ap (λ (n : ℕ). drop n (replicate 12 blank)) all in
-    rw (none, append-nil, take-replicate (12 - length t) 12 blank (omega arith)) (ap (λ (x : List ℕ). replicate (12 - length x) blank ++ x) e)

@@ -8,7 +8,6 @@ ghost use Rattle.result_record.specs.ResultRecord.{record_r};
 ghost use Rattle.page_text.specs.Decimal.{field};
 ghost use Rattle.page_text.specs.Page.{line_of, page_of_r, refusal_line, page_of};
 
-use itoa::Buffer;
 use refusals::Refusal;
 use result_record::{BYTES, r};
 
@@ -20,15 +19,17 @@ const LINE: usize = 193;
 
 pub const PAGE: usize = 3088;
 
-// A word in its columns, behind blanks.
-fn word_columns(w: i32) -> [u8; COLUMNS]
-    ensures { result ≡ field w }
+// Puts a word into its columns: blanks first, then its digits, the last one in the last column, and the sign before them. The library's `Buffer` would be
+// shorter, but its text has to be copied, and a page of short words took three times as long.
+fn put_word(w: i32, columns: &mut [u8])
+    requires { length columns.old ≡ 12 }
+    ensures { columns.new ≡ field w }
 {
-    let mut buffer = Buffer::new();
-    let text = buffer.format(w).as_bytes();
-    let mut columns = [b' '; COLUMNS];
-    columns[COLUMNS - text.len()..].copy_from_slice(text);
-    columns
+    columns.copy_from_slice(&[b' '; COLUMNS]);
+    let at = itoa::write_digits(u64::from(w.unsigned_abs()), columns, COLUMNS);
+    if w < 0 {
+        columns[at - 1] = b'-';
+    }
 }
 
 // Puts row i of R into its line.
@@ -39,7 +40,7 @@ fn put_line(bytes: &[u8; BYTES], i: usize, line: &mut [u8])
 {
     for j in 0..16 {
         let at = COLUMNS * j;
-        line[at..at + COLUMNS].copy_from_slice(&word_columns(r(bytes, i, j)));
+        put_word(r(bytes, i, j), &mut line[at..at + COLUMNS]);
     }
     line[LINE - 1] = b'\n';
 }
@@ -61,7 +62,7 @@ fn put_refusal(refusal: Refusal, output: &mut [u8; PAGE])
     ensures { output.new ≡ refusal_line (number_of refusal) ++ drop 13 output.old }
 {
     let number = i32::from(refusal.number());
-    output[..COLUMNS].copy_from_slice(&word_columns(number));
+    put_word(number, &mut output[..COLUMNS]);
     output[COLUMNS] = b'\n';
 }
 

@@ -67,16 +67,28 @@ pub fn reply_number(outcome: Result<(), Refusal>) -> u8
     }
 }
 
-// The test of the tag, then that of the length: the record of this tag and of N bytes that the bytes are. A tag is a byte of the format, and each
-// record's crate knows its own alone: an enum of tags would join what no crate reads together.
+// The test of the tag, then that of the length, whatever length is asked for. A tag is a byte of the format, and each record's crate knows its own
+// alone: an enum of tags would join what no crate reads together.
+#[tactic(auto, unfolding(crate::specs::Refusals::header_test))]
+pub fn check_tag_and_length(bytes: &[u8], tag: u8, size: usize) -> Result<(), Refusal>
+    ensures { outcome_number result ≡ header_test tag size bytes.now }
+{
+    if bytes.first() != Some(&tag) {
+        return Err(Refusal::WrongTag);
+    }
+    if bytes.len() != size {
+        return Err(Refusal::WrongLength);
+    }
+    Ok(())
+}
+
+// The same for a length that is a constant: the record of this tag and of N bytes that the bytes are.
 #[tactic(auto, unfolding(crate::specs::Refusals::header_test))]
 pub fn check_header<const N: usize>(bytes: &[u8], tag: u8) -> Result<&[u8; N], Refusal>
     ensures number { outcome_number result ≡ header_test tag N bytes.now }
     ensures same { IfOk result (λ checked. checked.now ≡ bytes.now) }
 {
-    if bytes.first() != Some(&tag) {
-        return Err(Refusal::WrongTag);
-    }
+    check_tag_and_length(bytes, tag, N)?;
     bytes.try_into().map_err(|_| Refusal::WrongLength)
 }
 

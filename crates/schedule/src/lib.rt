@@ -7,7 +7,7 @@ ghost use Rattle.std.specs.Prelude.{◌≡◌, ◌<◌, map};
 ghost use Rattle.std.specs.List.{concat};
 ghost use Rattle.schedule.specs.Schedule.{rotation_count, schedule, triple, flat, rotation_at_of};
 
-// A rotation: its leading column and its two rows.
+// A rotation (document 01's turn): its leading column and its two rows.
 #[derive(Clone, Copy)]
 pub struct Rotation {
     pub column: usize,

@@ -33,7 +33,7 @@ impl Filling for [u8; matrix_record::BYTES] {
     }
 }
 
-// A result record: R, and beside it Q transposed.
+// A result record: R, and beside it Q transposed. Where j is 16 or more, `j % 16` is `j - 16`, and Read takes less time with it.
 impl Filling for [u8; result_record::BYTES] {
     ghost word_of = { read_word_of };
 
@@ -43,7 +43,7 @@ impl Filling for [u8; result_record::BYTES] {
         if j < 16 {
             result_record::r(self, i, j)
         } else {
-            result_record::q(self, j - 16, i)
+            result_record::q(self, j % 16, i)
         }
     }
 }

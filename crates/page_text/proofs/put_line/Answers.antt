@@ -13,6 +13,6 @@ loop-j-init c = join_none _ _ _
 pub loop-j-preserved : goal.loop-j-preserved
 loop-j-preserved c =
     let same : 12 * c.loop-j.j + 12 - 12 * c.loop-j.j ≡ 12 = omega arith in
-    let put = c.copy_from_slice.ensures.after ∙ c.word_columns.ensures ∙ ap field (read_back w32 c.r.type_inv ∙ c.r.ensures) in
+    let put = c.put_word.ensures ∙ ap field (read_back w32 c.r.type_inv ∙ c.r.ensures) in
     let size = ap (λ (z : ℤ). length (field z)) (sym c.r.ensures) ∙ field-length c.r.result (record { sfits = c.r.type_inv }) in
     join_more _ _ c.loop-j.invariant same put size (omega arith)

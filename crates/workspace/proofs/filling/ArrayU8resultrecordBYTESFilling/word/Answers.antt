@@ -1,5 +1,5 @@
 -- Columns 0 to 15 are R's, the others Q's. Assumes nothing.
-use Rattle.std.proofs.Common.{rules, w32}
+use Rattle.std.proofs.Common.{◌≡◌, ◌-◌, ◌%◌, arith, rules, w32}
 use borrow.Author.Tests.{lt-ltb, le-ltb}
 use mir.Val.{SFits}
 use mir.Facts.{to_z-of_z}
@@ -16,4 +16,5 @@ pub returns-else-j-lt16 : goal.returns-else-j-lt16
 unfolding read_at
 returns-else-j-lt16 c =
     let f : SFits w32 c.q.result = search rules in
-    rw (le-ltb _ _ c.if-j-lt16.false, to_z-of_z f) c.q.ensures
+    let e : c.args.k % 32 % 16 ≡ c.args.k % 32 - 16 = omega arith in
+    rw (le-ltb _ _ c.if-j-lt16.false, to_z-of_z f) (rw e at c.q.ensures)
