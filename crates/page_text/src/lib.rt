@@ -20,7 +20,7 @@ const LINE: usize = 193;
 pub const PAGE: usize = 3088;
 
 // Puts a word into its columns: blanks first, then its digits, the last one in the last column, and the sign before them. The library's `Buffer` would be
-// shorter, but its text has to be copied, and a page of short words took three times as long.
+// shorter, but its text has to be copied, and a page of short words takes more than twice as long with it.
 fn put_word(w: i32, columns: &mut [u8])
     requires { length columns.old ≡ 12 }
     ensures { columns.new ≡ field w }
